@@ -1,0 +1,35 @@
+//! A cell: a weight, and where it comes from.
+ghost use Rattle.std.specs.Prelude.{◌≡◌};
+ghost use Rattle.dist_rows.specs.Cells.{is_lower};
+
+use stn_model::AgentId;
+
+/// Where the weight of a cell comes from.
+#[derive(Clone, Copy, PartialEq, Eq, Debug)]
+pub enum Via {
+    /// The bound of the given arc of this number.
+    Given(u32),
+    /// An entry of the summary that this agent published.
+    Published(AgentId),
+    /// The sum of the two cells through this place.
+    Through(u32),
+}
+
+/// The weight from one place to another, in the network's unit of time, with its origin.
+#[derive(Clone, Copy, PartialEq, Eq, Debug)]
+pub struct Cell {
+    pub weight: i128,
+    pub via: Via,
+}
+
+impl Cell {
+    /// Whether this cell is written over `old`: there is no old cell, or its weight is strictly greater.
+    pub fn is_below(&self, old: Option<Cell>) -> bool
+        ensures { result ≡ is_lower old self.now }
+    {
+        match old {
+            None => true,
+            Some(old) => self.weight < old.weight,
+        }
+    }
+}

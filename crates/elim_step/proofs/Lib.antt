@@ -1,0 +1,6 @@
+pub mod Lists
+pub mod Blocks
+pub mod Regions
+pub mod Whole
+pub mod Revisits
+pub mod Finds

@@ -1,0 +1,6 @@
+pub mod Eliminates
+pub mod Blocks
+pub mod Regions
+pub mod Revisits
+pub mod Picks
+pub mod Summaries

@@ -1,0 +1,25 @@
+-- Which lists of entries are summaries: pairs strictly rise by from and to, ends differ, weights have magnitude at most 2^53.
+use Rattle.std.specs.Prelude.{ℕ, List, [], ◌∷◌, Bool, true, ◌&&◌, ◌||◌, not, nat_lt, ◌==◌, nat_le, nat_abs, Option, Some, None}
+use Rattle.elim_step.specs.declared.summary.SummaryEntry.{SummaryEntry}
+
+-- whether the ends differ and the weight is in range
+abbrev pub is_valid : SummaryEntry → Bool
+is_valid e = not (e.from.0 == e.to.0) && nat_le (nat_abs e.weight) 9007199254740992
+
+-- whether the pair of one entry is less than that of another: by from, then by to
+abbrev pub is_less : SummaryEntry → SummaryEntry → Bool
+is_less a b = nat_lt a.from.0 b.from.0 || ((a.from.0 == b.from.0) && nat_lt a.to.0 b.to.0)
+
+-- whether an entry is valid and may stand after the last one, where there is one
+abbrev pub may_follow : Option SummaryEntry → SummaryEntry → Bool
+may_follow None e = is_valid e
+may_follow (Some last) e = is_less last e && is_valid e
+
+-- whether entries may stand in this order after the last one
+abbrev pub may_all_follow : Option SummaryEntry → List SummaryEntry → Bool
+may_all_follow last [] = true
+may_all_follow last (e ∷ es) = may_follow last e && may_all_follow (Some e) es
+
+-- whether a list of entries is a summary
+abbrev pub is_summary : List SummaryEntry → Bool
+is_summary entries = may_all_follow None entries

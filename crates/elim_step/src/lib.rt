@@ -1,0 +1,21 @@
+//! One elimination and one revisit over rows of cells, the order in which points are taken, and summaries.
+#![tactic(auto)]
+
+mod block;
+mod lower;
+mod neighbours;
+pub mod pick;
+pub mod revisit;
+mod room;
+pub mod step;
+pub mod steps;
+pub mod summary;
+
+pub use pick::{Candidate, Picker};
+pub use revisit::revisit_point;
+pub use step::{Found, eliminate_point};
+pub use steps::Steps;
+pub use summary::{Summary, SummaryEntry, Window};
+
+#[cfg(test)]
+mod tests;

@@ -1,0 +1,165 @@
+//! The pairs of the remaining neighbours of a place, lowered to the sums through it.
+ghost use Rattle.std.specs.Prelude.{◌≡◌, ◌≢◌, ℕ, ◌+◌, ◌*◌, ◌<◌, ◌≤◌, true, false, ◌&&◌, ◌==◌, IfSome, length};
+ghost use Rattle.dist_rows.specs.declared.cell.Cell.{Cell};
+ghost use Rattle.dist_rows.specs.Cells.{AllLight, IsLight};
+ghost use Rattle.elim_step.specs.Eliminates.{is_met, count_below, sum_through};
+ghost use Rattle.elim_step.specs.Blocks.{is_in, items_of, IsBlock};
+ghost use Rattle.elim_step.specs.Regions.{region_after};
+
+use crate::block::Block;
+use crate::neighbours::block_from;
+use crate::steps::Steps;
+use dist_rows::{Cell, Rows, Via};
+use std::sync::ledger::Ledger;
+
+/// The sum of two cells through k, where both are there.
+pub fn sum_of(k: u32, first: Option<Cell>, second: Option<Cell>) -> Option<Cell>
+    requires first { IfSome first (λ c. IsLight 99 c.weight) }
+    requires second { IfSome second (λ c. IsLight 99 c.weight) }
+    ensures value { result ≡ sum_through k first second }
+    ensures light { IfSome result (λ c. IsLight 100 c.weight) }
+{
+    match (first, second) {
+        (Some(a), Some(b)) => Some(Cell {
+            weight: a.weight + b.weight,
+            via: Via::Through(k),
+        }),
+        _ => None,
+    }
+}
+
+// Lowers one pair through k, unless its places are one. That is one step.
+fn lower_pair<R: Rows, L: Ledger>(rows: &mut R, k: u32, i: u32, j: u32, steps: &mut Steps<L>)
+    requires within { (k < R.places rows.old) × (i < R.places rows.old) × (j < R.places rows.old) }
+    requires room { i ≢ j → R.has_room rows.old i j ≡ true }
+    requires first { IfSome (R.at rows.old i k) (λ c. IsLight 99 c.weight) }
+    requires second { IfSome (R.at rows.old k j) (λ c. IsLight 99 c.weight) }
+    ensures cells { (p q : ℕ) → R.at rows.new p q ≡ region_after k (λ a b. (a == i) && (b == j)) (R.at rows.old) p q }
+    ensures room { (p q : ℕ) → R.has_room rows.new p q ≡ R.has_room rows.old p q }
+    ensures places { R.places rows.new ≡ R.places rows.old }
+    ensures roomy { R.is_roomy rows.new ≡ R.is_roomy rows.old }
+    ensures steps { steps.new ≡ steps.old + 1 }
+{
+    steps.tick();
+    if i == j {
+        return;
+    }
+    if let Some(cell) = sum_of(k, rows.get(i, k), rows.get(k, j)) {
+        rows.lower(i, j, cell);
+    }
+}
+
+// Lowers the pairs of i with each of these places through k.
+fn lower_row<R: Rows, L: Ledger>(rows: &mut R, k: u32, i: u32, others: &[u32], steps: &mut Steps<L>)
+    requires within { (k < R.places rows.old) × (i < R.places rows.old) }
+    requires all_within { (j : ℕ) → is_in j others.now ≡ true → j < R.places rows.old }
+    requires apart { i ≢ k }
+    requires away { is_in k others.now ≡ false }
+    requires room { (j : ℕ) → is_in j others.now ≡ true → i ≢ j → R.has_room rows.old i j ≡ true }
+    requires first { IfSome (R.at rows.old i k) (λ c. IsLight 99 c.weight) }
+    requires second { (j : ℕ) → IfSome (R.at rows.old k j) (λ c. IsLight 99 c.weight) }
+    ensures cells { (p q : ℕ) → R.at rows.new p q ≡ region_after k (λ a b. (a == i) && is_in b others.now) (R.at rows.old) p q }
+    ensures room { (p q : ℕ) → R.has_room rows.new p q ≡ R.has_room rows.old p q }
+    ensures places { R.places rows.new ≡ R.places rows.old }
+    ensures roomy { R.is_roomy rows.new ≡ R.is_roomy rows.old }
+    ensures steps { steps.new ≡ steps.old + length others.now }
+{
+    for &j in others {
+        lower_pair(rows, k, i, j, steps);
+    }
+}
+
+// Lowers the pairs of each of some places with each of others through k.
+fn lower_pairs<R: Rows, L: Ledger>(
+    rows: &mut R,
+    k: u32,
+    places: &[u32],
+    others: &[u32],
+    steps: &mut Steps<L>,
+)
+    requires within { k < R.places rows.old }
+    requires all_within { (i : ℕ) → is_in i places.now ≡ true → i < R.places rows.old }
+    requires others_within { (j : ℕ) → is_in j others.now ≡ true → j < R.places rows.old }
+    requires away { is_in k places.now ≡ false }
+    requires others_away { is_in k others.now ≡ false }
+    requires room { (i j : ℕ) → is_in i places.now ≡ true → is_in j others.now ≡ true → i ≢ j → R.has_room rows.old i j ≡ true }
+    requires first { (i : ℕ) → IfSome (R.at rows.old i k) (λ c. IsLight 99 c.weight) }
+    requires second { (j : ℕ) → IfSome (R.at rows.old k j) (λ c. IsLight 99 c.weight) }
+    ensures cells { (p q : ℕ) → R.at rows.new p q ≡ region_after k (λ a b. is_in a places.now && is_in b others.now) (R.at rows.old) p q }
+    ensures room { (p q : ℕ) → R.has_room rows.new p q ≡ R.has_room rows.old p q }
+    ensures places { R.places rows.new ≡ R.places rows.old }
+    ensures roomy { R.is_roomy rows.new ≡ R.is_roomy rows.old }
+    ensures steps { steps.new ≡ steps.old + length places.now * length others.now }
+{
+    for &i in places {
+        lower_row(rows, k, i, others, steps);
+    }
+}
+
+// Lowers the pairs of each of some places with each remaining neighbour of k through k. `first` is the first block of
+// these neighbours.
+fn lower_rows<R: Rows, L: Ledger>(
+    rows: &mut R,
+    k: u32,
+    remain: &[bool],
+    places: &[u32],
+    first: &Block,
+    steps: &mut Steps<L>,
+)
+    requires within { k < R.places rows.old }
+    requires len { length remain.now ≡ R.places rows.old }
+    requires all_within { (i : ℕ) → is_in i places.now ≡ true → i < R.places rows.old }
+    requires away { is_in k places.now ≡ false }
+    requires first_block { IsBlock (is_met remain.now (R.at rows.old) k) 0 first.now.end (items_of first.now) }
+    requires start { (first.now.from ≡ 0) × (first.now.end ≤ R.places rows.old) }
+    requires room { (i j : ℕ) → is_in i places.now ≡ true → is_met remain.now (R.at rows.old) k j ≡ true → i ≢ j → R.has_room rows.old i j ≡ true }
+    requires first { (i : ℕ) → IfSome (R.at rows.old i k) (λ c. IsLight 99 c.weight) }
+    requires second { (j : ℕ) → IfSome (R.at rows.old k j) (λ c. IsLight 99 c.weight) }
+    ensures cells { (p q : ℕ) → R.at rows.new p q ≡ region_after k (λ a b. is_in a places.now && is_met remain.now (R.at rows.old) k b) (R.at rows.old) p q }
+    ensures room { (p q : ℕ) → R.has_room rows.new p q ≡ R.has_room rows.old p q }
+    ensures places { R.places rows.new ≡ R.places rows.old }
+    ensures roomy { R.is_roomy rows.new ≡ R.is_roomy rows.old }
+    ensures steps { steps.new ≡ steps.old + length places.now * count_below (is_met remain.now (R.at rows.old) k) (R.places rows.old) }
+{
+    let size = rows.size();
+    let mut others = *first;
+    'walk: loop {
+        lower_pairs(rows, k, places, others.as_slice(), steps);
+        if others.end >= size {
+            return;
+        }
+        others = block_from(rows, k, remain, others.end);
+    }
+}
+
+/// Lowers all pairs of different remaining neighbours of k through k. `first` is the first block of these neighbours.
+/// Each pair is one step, also that of a place with itself.
+pub fn lower_all<R: Rows, L: Ledger>(
+    rows: &mut R,
+    k: u32,
+    remain: &[bool],
+    first: &Block,
+    steps: &mut Steps<L>,
+)
+    requires within { k < R.places rows.old }
+    requires len { length remain.now ≡ R.places rows.old }
+    requires first_block { IsBlock (is_met remain.now (R.at rows.old) k) 0 first.now.end (items_of first.now) }
+    requires start { (first.now.from ≡ 0) × (first.now.end ≤ R.places rows.old) }
+    requires room { (i j : ℕ) → is_met remain.now (R.at rows.old) k i ≡ true → is_met remain.now (R.at rows.old) k j ≡ true → i ≢ j → R.has_room rows.old i j ≡ true }
+    requires light { AllLight 99 (R.at rows.old) }
+    ensures cells { (p q : ℕ) → R.at rows.new p q ≡ region_after k (λ a b. is_met remain.now (R.at rows.old) k a && is_met remain.now (R.at rows.old) k b) (R.at rows.old) p q }
+    ensures room { (p q : ℕ) → R.has_room rows.new p q ≡ R.has_room rows.old p q }
+    ensures places { R.places rows.new ≡ R.places rows.old }
+    ensures roomy { R.is_roomy rows.new ≡ R.is_roomy rows.old }
+    ensures steps { let d = count_below (is_met remain.now (R.at rows.old) k) (R.places rows.old) in steps.new ≡ steps.old + d * d }
+{
+    let size = rows.size();
+    let mut block = *first;
+    'walk: loop {
+        lower_rows(rows, k, remain, block.as_slice(), first, steps);
+        if block.end >= size {
+            return;
+        }
+        block = block_from(rows, k, remain, block.end);
+    }
+}

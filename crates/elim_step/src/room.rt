@@ -1,0 +1,120 @@
+//! Room for all pairs of the remaining neighbours of a place, made before any cell is lowered.
+ghost use Rattle.std.specs.Prelude.{◌≡◌, ◌≢◌, ℕ, ◌<◌, ◌≤◌, true, false, OnOk, OnErr, length};
+ghost use Rattle.elim_step.specs.Eliminates.{is_met};
+ghost use Rattle.elim_step.specs.Blocks.{is_in, items_of, IsBlock};
+
+use crate::block::Block;
+use crate::neighbours::block_from;
+use dist_rows::Rows;
+use stn_model::OutOfMemory;
+
+// Makes room for one pair, unless its places are one.
+fn make_room_pair<R: Rows>(rows: &mut R, i: u32, j: u32) -> Result<(), OutOfMemory>
+    requires within { (i < R.places rows.old) × (j < R.places rows.old) }
+    ensures cells { (p q : ℕ) → R.at rows.new p q ≡ R.at rows.old p q }
+    ensures places { R.places rows.new ≡ R.places rows.old }
+    ensures roomy { R.is_roomy rows.new ≡ R.is_roomy rows.old }
+    ensures room { OnOk result (i ≢ j → R.has_room rows.new i j ≡ true) }
+    ensures other_room { (p q : ℕ) → R.has_room rows.old p q ≡ true → R.has_room rows.new p q ≡ true }
+    ensures err { OnErr result (R.is_roomy rows.old ≡ false) }
+{
+    if i == j {
+        return Ok(());
+    }
+    rows.make_room(i, j)
+}
+
+// Makes room for the pairs of i with each of these places.
+fn make_room_row<R: Rows>(rows: &mut R, i: u32, others: &[u32]) -> Result<(), OutOfMemory>
+    requires within { i < R.places rows.old }
+    requires all_within { (j : ℕ) → is_in j others.now ≡ true → j < R.places rows.old }
+    ensures cells { (p q : ℕ) → R.at rows.new p q ≡ R.at rows.old p q }
+    ensures places { R.places rows.new ≡ R.places rows.old }
+    ensures roomy { R.is_roomy rows.new ≡ R.is_roomy rows.old }
+    ensures room { OnOk result ((j : ℕ) → is_in j others.now ≡ true → i ≢ j → R.has_room rows.new i j ≡ true) }
+    ensures other_room { (p q : ℕ) → R.has_room rows.old p q ≡ true → R.has_room rows.new p q ≡ true }
+    ensures err { OnErr result (R.is_roomy rows.old ≡ false) }
+{
+    for &j in others {
+        make_room_pair(rows, i, j)?;
+    }
+    Ok(())
+}
+
+// Makes room for the pairs of each of some places with each of others.
+fn make_room_pairs<R: Rows>(rows: &mut R, places: &[u32], others: &[u32]) -> Result<(), OutOfMemory>
+    requires within { (i : ℕ) → is_in i places.now ≡ true → i < R.places rows.old }
+    requires all_within { (j : ℕ) → is_in j others.now ≡ true → j < R.places rows.old }
+    ensures cells { (p q : ℕ) → R.at rows.new p q ≡ R.at rows.old p q }
+    ensures places { R.places rows.new ≡ R.places rows.old }
+    ensures roomy { R.is_roomy rows.new ≡ R.is_roomy rows.old }
+    ensures room { OnOk result ((i j : ℕ) → is_in i places.now ≡ true → is_in j others.now ≡ true → i ≢ j → R.has_room rows.new i j ≡ true) }
+    ensures other_room { (p q : ℕ) → R.has_room rows.old p q ≡ true → R.has_room rows.new p q ≡ true }
+    ensures err { OnErr result (R.is_roomy rows.old ≡ false) }
+{
+    for &i in places {
+        make_room_row(rows, i, others)?;
+    }
+    Ok(())
+}
+
+// Makes room for the pairs of each of some places with each remaining neighbour of k. `first` is the first block of these.
+fn make_room_rows<R: Rows>(
+    rows: &mut R,
+    k: u32,
+    remain: &[bool],
+    places: &[u32],
+    first: &Block,
+) -> Result<(), OutOfMemory>
+    requires within { k < R.places rows.old }
+    requires len { length remain.now ≡ R.places rows.old }
+    requires all_within { (i : ℕ) → is_in i places.now ≡ true → i < R.places rows.old }
+    requires first { IsBlock (is_met remain.now (R.at rows.old) k) 0 first.now.end (items_of first.now) }
+    requires start { (first.now.from ≡ 0) × (first.now.end ≤ R.places rows.old) }
+    ensures cells { (p q : ℕ) → R.at rows.new p q ≡ R.at rows.old p q }
+    ensures places { R.places rows.new ≡ R.places rows.old }
+    ensures roomy { R.is_roomy rows.new ≡ R.is_roomy rows.old }
+    ensures room { OnOk result ((i j : ℕ) → is_in i places.now ≡ true → is_met remain.now (R.at rows.old) k j ≡ true → i ≢ j → R.has_room rows.new i j ≡ true) }
+    ensures other_room { (p q : ℕ) → R.has_room rows.old p q ≡ true → R.has_room rows.new p q ≡ true }
+    ensures err { OnErr result (R.is_roomy rows.old ≡ false) }
+{
+    let size = rows.size();
+    let mut others = *first;
+    'walk: loop {
+        make_room_pairs(rows, places, others.as_slice())?;
+        if others.end >= size {
+            return Ok(());
+        }
+        others = block_from(rows, k, remain, others.end);
+    }
+}
+
+/// Makes room for all pairs of different remaining neighbours of k. `first` is the first block of these.
+/// All cells and all other room stay.
+pub fn make_rooms<R: Rows>(
+    rows: &mut R,
+    k: u32,
+    remain: &[bool],
+    first: &Block,
+) -> Result<(), OutOfMemory>
+    requires within { k < R.places rows.old }
+    requires len { length remain.now ≡ R.places rows.old }
+    requires first { IsBlock (is_met remain.now (R.at rows.old) k) 0 first.now.end (items_of first.now) }
+    requires start { (first.now.from ≡ 0) × (first.now.end ≤ R.places rows.old) }
+    ensures cells { (p q : ℕ) → R.at rows.new p q ≡ R.at rows.old p q }
+    ensures places { R.places rows.new ≡ R.places rows.old }
+    ensures roomy { R.is_roomy rows.new ≡ R.is_roomy rows.old }
+    ensures room { OnOk result ((i j : ℕ) → is_met remain.now (R.at rows.old) k i ≡ true → is_met remain.now (R.at rows.old) k j ≡ true → i ≢ j → R.has_room rows.new i j ≡ true) }
+    ensures other_room { (p q : ℕ) → R.has_room rows.old p q ≡ true → R.has_room rows.new p q ≡ true }
+    ensures err { OnErr result (R.is_roomy rows.old ≡ false) }
+{
+    let size = rows.size();
+    let mut block = *first;
+    'walk: loop {
+        make_room_rows(rows, k, remain, block.as_slice(), first)?;
+        if block.end >= size {
+            return Ok(());
+        }
+        block = block_from(rows, k, remain, block.end);
+    }
+}

@@ -1,0 +1,5 @@
+pub mod Schedules
+pub mod Summary
+pub mod Facts
+pub mod Least
+pub mod DetourSummary

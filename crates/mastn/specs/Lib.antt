@@ -1,0 +1,6 @@
+pub mod Statuses
+pub mod Jobs
+pub mod Reports
+pub mod Checks
+pub mod Runs
+pub mod Laws

@@ -1,0 +1,80 @@
+//! The top call: from the words and the input to the status and the output.
+ghost use Rattle.std.specs.Prelude.{◌≡◌, ◌≤◌, codes, map, None, Some, length};
+ghost use Rattle.mastn.specs.Checks.{CheckSays};
+ghost use Rattle.mastn.specs.Jobs.{job_of};
+ghost use Rattle.mastn.specs.Reports.{refusal_line};
+ghost use Rattle.mastn.specs.Runs.{Writes, Runs, refusal_status, refusal_word};
+ghost use Rattle.mastn.specs.declared.status.Status.TheVariants as status;
+ghost use Rattle.mastn.specs.declared.words.Job.TheVariants as job;
+
+use crate::check::answer_check;
+use crate::status::Status;
+use crate::words::{Job, read_words};
+use std::alloc::Global;
+use stn_io::{ReadRefusal, Sink, Source, read_all, write_all};
+
+/// The greatest number of bytes of an input.
+pub const INPUT_LIMIT: u32 = 16_777_216;
+
+/// Does the job that the words ask for, with the source as its input and the sink for its output.
+///
+/// The input is read to its end before anything is written. What the sink takes is the whole
+/// report, one error line, or, with the status of a write fault, a front of one of these.
+pub fn run<S: Source, K: Sink>(
+    alloc: Global,
+    words: &[Vec<u8>],
+    source: &mut S,
+    sink: &mut K,
+) -> Status
+    // No job: nothing is read.
+    ensures words_bad { job_of (map (λ w. w.items) words.now) ≡ None → (source.new ≡ source.old)
+        × Writes status.WordsBad (refusal_line (codes "WordsBad")) (K.faults sink.old) (K.faults sink.new) (K.taken sink.old) (K.taken sink.new) result }
+    ensures check { job_of (map (λ w. w.items) words.now) ≡ Some job.Check
+        → Runs CheckSays (S.left source.old) (S.left source.new) (S.faults source.old) (S.faults source.new) (K.taken sink.old) (K.taken sink.new) (K.faults sink.old) (K.faults sink.new) result }
+    ensures reads_later { S.faults source.old ≤ S.faults source.new }
+    ensures writes_later { K.faults sink.old ≤ K.faults sink.new }
+{
+    match read_words(words) {
+        None => deliver(sink, b"error 0 WordsBad\n", Status::WordsBad),
+        Some(Job::Check) => run_check(alloc, source, sink),
+    }
+}
+
+/// Reads a network and reports its earliest schedule, or a negative cycle. What follows the `end` line of the network is not looked at.
+pub fn run_check<S: Source, K: Sink>(alloc: Global, source: &mut S, sink: &mut K) -> Status
+    ensures check { Runs CheckSays (S.left source.old) (S.left source.new) (S.faults source.old) (S.faults source.new) (K.taken sink.old) (K.taken sink.new) (K.faults sink.old) (K.faults sink.new) result }
+    ensures reads_later { S.faults source.old ≤ S.faults source.new }
+    ensures writes_later { K.faults sink.old ≤ K.faults sink.new }
+{
+    let bytes = match read_all(alloc, source, INPUT_LIMIT) {
+        Ok(bytes) => bytes,
+        Err(refusal) => return refuse(sink, refusal),
+    };
+    match answer_check(alloc, bytes.as_slice()) {
+        Ok(answer) => deliver(sink, answer.text.as_slice(), answer.status),
+        Err(_) => refuse(sink, ReadRefusal::OutOfMemory),
+    }
+}
+
+/// Writes the error line of an input that was not read whole, or for which memory ran out.
+fn refuse<K: Sink>(sink: &mut K, refusal: ReadRefusal) -> Status
+    ensures writing { Writes (refusal_status refusal) (refusal_line (refusal_word refusal)) (K.faults sink.old) (K.faults sink.new) (K.taken sink.old) (K.taken sink.new) result }
+    ensures later { K.faults sink.old ≤ K.faults sink.new }
+{
+    match refusal {
+        ReadRefusal::ReadFault => deliver(sink, b"error 0 ReadFault\n", Status::ReadFault),
+        ReadRefusal::TooLong => deliver(sink, b"error 0 InputTooLong\n", Status::InputTooLong),
+        ReadRefusal::OutOfMemory => { deliver(sink, b"error 0 OutOfMemory\n", Status::OutOfMemory) }
+    }
+}
+
+/// Writes a text, and gives the status that goes with it unless a write fails.
+fn deliver<K: Sink>(sink: &mut K, text: &[u8], meant: Status) -> Status
+    ensures writing { Writes meant text.now (K.faults sink.old) (K.faults sink.new) (K.taken sink.old) (K.taken sink.new) result }
+    ensures later { K.faults sink.old ≤ K.faults sink.new }
+{
+    match write_all(sink, text) {
+        Ok(()) => meant,
+        Err(_) => Status::WriteFault,
+    }
+}

@@ -1,0 +1,113 @@
+//! Runs over memory: every status, with what the sink took.
+use crate::run::run;
+use crate::status::Status;
+use std::alloc::Global;
+use std::test::Fail;
+use stn_io::{MemSink, MemSource};
+
+const STORED: &[u8] = b"mastn 1\nhorizon 10\nagent alice early\npoint alice a\nend\n";
+
+/// Runs the job of these words on this input, with a source and a sink that give and take pieces and fail at the listed calls.
+fn answer(
+    alloc: Global,
+    words: &[&[u8]],
+    input: &[u8],
+    reads: (usize, &[u32]),
+    writes: (usize, &[u32]),
+) -> Result<(Status, Vec<u8>), Fail> {
+    let mut given = Vec::new(alloc);
+    for word in words {
+        given.push(Vec::from_slice(alloc, word)?)?;
+    }
+    let piece = reads.0.max(1);
+    let failing = Vec::from_slice(alloc, reads.1)?;
+    let mut source = MemSource::new(Vec::from_slice(alloc, input)?, piece, failing);
+    let piece = writes.0.max(1);
+    let failing = Vec::from_slice(alloc, writes.1)?;
+    let mut sink = MemSink::new(vec![in alloc; 0u8; 65536]?, piece, failing);
+    let status = run(alloc, given.as_slice(), &mut source, &mut sink);
+    let taken = Vec::from_slice(alloc, sink.bytes())?;
+    Ok((status, taken))
+}
+
+#[test]
+fn words_and_inputs_have_their_answers(rt: HostRuntime) -> Result<(), Fail> {
+    let check: &[u8] = b"check";
+    let help: &[u8] = b"help";
+    let cases: [(&[&[u8]], &[u8], Status, &[u8]); 9] = [
+        (&[], STORED, Status::Done, b"consistent\ntime a 0\n"),
+        (&[check], STORED, Status::Done, b"consistent\ntime a 0\n"),
+        (&[help], STORED, Status::WordsBad, b"error 0 WordsBad\n"),
+        (
+            &[check, check],
+            STORED,
+            Status::WordsBad,
+            b"error 0 WordsBad\n",
+        ),
+        (&[], b"", Status::NetBad, b"error 1 NoHeader\n"),
+        (
+            &[],
+            b"mastn 1\nhorizon 10\n",
+            Status::NetBad,
+            b"error 3 NoEnd\n",
+        ),
+        (
+            &[],
+            b"mastn 1\nhorizon 10\nend\nwhat follows\n\x80",
+            Status::Done,
+            b"consistent\n",
+        ),
+        (
+            &[],
+            b"mastn 1\nhorizon 10\nagent x\npoint x a\npoint x b\nbound a b 5 3\nend\n",
+            Status::Inconsistent,
+            b"inconsistent\ncycle -2 2\narc 4 a b 3\narc 5 b a -5\n",
+        ),
+        (
+            &[],
+            b"mastn 1\nhorizon 100\nagent ann early\nagent bob early\npoint ann a1\npoint ann a2\npoint bob b1\npoint bob b2\narc z a1 20\nbound a1 a2 30 40\nbound a2 b1 0 5\nbound b1 b2 10 20\nend\n",
+            Status::Done,
+            b"consistent\ntime a1 0\ntime a2 30\ntime b1 30\ntime b2 40\n",
+        ),
+    ];
+    for (words, input, status, text) in cases {
+        let found = answer(rt.alloc(), words, input, (4096, &[]), (4096, &[]))?;
+        assert_eq!(rt; found.0, status);
+        assert_eq!(rt; found.1.as_slice(), text);
+    }
+    Ok(())
+}
+
+#[test]
+fn failing_calls_have_their_answers(rt: HostRuntime) -> Result<(), Fail> {
+    for call in 1..8u32 {
+        let found = answer(rt.alloc(), &[], STORED, (8, &[call]), (4096, &[]))?;
+        assert_eq!(rt; found.0, Status::ReadFault, "read {call}");
+        assert_eq!(rt; found.1.as_slice(), b"error 0 ReadFault\n".as_slice());
+    }
+    let cases: [(u32, &[u8]); 4] = [
+        (1, b""),
+        (2, b"consis"),
+        (3, b"consistent\nt"),
+        (4, b"consistent\ntime a "),
+    ];
+    for (call, taken) in cases {
+        let found = answer(rt.alloc(), &[], STORED, (4096, &[]), (6, &[call]))?;
+        assert_eq!(rt; found.0, Status::WriteFault, "write {call}");
+        assert_eq!(rt; found.1.as_slice(), taken, "write {call}");
+    }
+    Ok(())
+}
+
+#[test]
+fn a_long_input_is_refused(rt: HostRuntime) -> Result<(), Fail> {
+    for (length, text) in [
+        (16_777_216usize, b"error 16777217 NoHeader\n".as_slice()),
+        (16_777_217, b"error 0 InputTooLong\n".as_slice()),
+    ] {
+        let input = vec![in rt.alloc(); b'\n'; length]?;
+        let found = answer(rt.alloc(), &[], input.as_slice(), (65536, &[]), (4096, &[]))?;
+        assert_eq!(rt; found.1.as_slice(), text);
+    }
+    Ok(())
+}

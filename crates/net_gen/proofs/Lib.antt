@@ -1,0 +1,5 @@
+pub mod NameForms
+pub mod Free
+pub mod Places
+pub mod Consistent
+pub mod Drawing

@@ -1,0 +1,15 @@
+pub mod Parts
+pub mod Digits
+pub mod Fronts
+pub mod FieldsOfLines
+pub mod LinesRead
+pub mod NumbersBack
+pub mod NamesBack
+pub mod NetworksBack
+pub mod NetParts
+pub mod Takes
+pub mod Refused
+pub mod Meanings
+pub mod Counts
+pub mod Progress
+pub mod UsedLines

@@ -1,0 +1,7 @@
+-- What is left decides.
+use Rattle.std.proofs.Common.{◌≡◌, drop}
+use Rattle.net_text.specs.Lines.{is_skipped}
+use Rattle.net_text.proofs.lines.is_skipped.Given as goal
+
+abbrev pub invariant-loop-byte : goal.invariant-loop-byte
+invariant-loop-byte l = is_skipped l.line ≡ is_skipped (drop l.byte-index l.line)

@@ -1,0 +1,9 @@
+pub mod Lines
+pub mod Fields
+pub mod Numbers
+pub mod Words
+pub mod Networks
+pub mod Plain
+pub mod Causes
+pub mod Laws
+pub mod Adding

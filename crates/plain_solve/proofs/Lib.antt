@@ -1,0 +1,10 @@
+pub mod GraphLemmas
+pub mod Raises
+pub mod LastArcs
+pub mod Refutes
+pub mod Beginnings
+pub mod Ends
+pub mod TurnedBeginnings
+pub mod Trees
+pub mod OrderLemmas
+pub mod LeastLemmas

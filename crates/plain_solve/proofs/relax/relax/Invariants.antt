@@ -1,0 +1,10 @@
+use Rattle.std.proofs.Common.{◌-◌}
+use Rattle.plain_solve.specs.LabelFacts.{IsForced}
+use Rattle.plain_solve.specs.QueueFacts.{IsLayout, IsQueue}
+use Rattle.plain_solve.proofs.relax.relax.Given as goal
+
+abbrev pub invariant-rounds : goal.invariant-rounds
+invariant-rounds l = record { forced : IsForced l.graph l.labels; queue : IsQueue l.graph l.queue }
+
+abbrev pub decreases-rounds : goal.decreases-rounds
+decreases-rounds l = 9007199254740992 - l.labels.raises

@@ -1,0 +1,4 @@
+pub mod Takes
+pub mod Turns
+pub mod Within
+pub mod Grows

@@ -1,0 +1,24 @@
+//! What a script asks for.
+use crate::batch::Batch;
+use stn_model::{Constraint, PointId};
+
+/// One command of a script.
+#[derive(Drop)]
+pub enum Command {
+    /// The least bounds of all joined pairs.
+    Bounds,
+    /// The least windows of all points.
+    Windows,
+    /// One least bound with its walk and schedule; the points differ.
+    Prove { from: PointId, to: PointId },
+    /// A tightening by one arc.
+    Tighten { arc: Constraint },
+    /// A tightening by several arcs together.
+    Batch { arcs: Batch },
+    /// The decoupling of the agents.
+    Decouple,
+    /// A time for a point other than the reference point.
+    Choose { point: PointId, time: i128 },
+    /// The whole schedule.
+    Schedule,
+}

@@ -1,0 +1,20 @@
+//! What one line of a script asks for.
+use stn_model::{Constraint, PointId};
+
+/// What one line of a script asks for, by itself.
+#[derive(Clone, Copy)]
+pub enum Line {
+    /// The line has no field.
+    Nothing,
+    Bounds,
+    Windows,
+    Prove { from: PointId, to: PointId },
+    Tighten { arc: Constraint },
+    BeginBatch,
+    BatchArc { arc: Constraint },
+    CloseBatch,
+    Decouple,
+    Choose { point: PointId, time: i128 },
+    Schedule,
+    Done,
+}

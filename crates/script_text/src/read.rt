@@ -1,0 +1,143 @@
+//! Reading a script.
+ghost use Rattle.std.specs.Prelude.{◌≡◌, ◌+◌, ◌<◌, ◌≤◌, ◌^◌, length, IfOk};
+ghost use Rattle.script_text.specs.Lines.{line_in};
+ghost use Rattle.script_text.specs.Scripts.{IsScriptOf, Reads, Takes, line_does, reading_of, script_of};
+
+use crate::command::Command;
+use crate::grammar::line_of;
+use crate::line::Line;
+use crate::stage::{Next, Stage};
+use net_text::fields::fields_of;
+use net_text::lines::{is_skipped, is_text, Lines};
+use net_text::{TextCause, TextError};
+use std::alloc::Global;
+use std::marker::Model;
+use stn_model::{Network, OutOfMemory};
+
+/// No line of the grammar has as many fields.
+const TOO_MANY_FIELDS: usize = 5;
+
+/// A list of commands.
+#[derive(Drop)]
+pub struct Script {
+    commands: Vec<Command>,
+}
+
+impl Model for Script {
+    ghost use Rattle.std.specs.Prelude.{List};
+    ghost use Rattle.script_text.specs.declared.command.Command.{Command};
+
+    ghost Value = { List Command };
+
+    ghost view = { λ s. s.commands.items };
+}
+
+impl Script {
+    /// The commands, in order. The `done` line is none.
+    pub fn commands(&self) -> &[Command]
+        ensures { result.now ≡ self.now }
+    {
+        self.commands.as_slice()
+    }
+}
+
+/// A script that was read from the front of a text.
+#[derive(Drop)]
+pub struct ScriptRead {
+    /// The script.
+    pub script: Script,
+    /// How many bytes the text takes, up to its `done` line and the line feed after it.
+    pub used: usize,
+    /// How many lines these bytes have.
+    pub lines: u32,
+}
+
+/// Reads a script from the front of a text. The first line of the text has the number `first_line`.
+///
+/// # Errors
+///
+/// - `At`: no script stands at the front. It names the first line that fails, and the first test that it fails. Where the
+///   `done` line is missing, it is the line after the last one.
+/// - `OutOfMemory`: memory ran out.
+pub fn read_script(
+    alloc: Global,
+    net: &Network,
+    bytes: &[u8],
+    first_line: u32,
+) -> Result<ScriptRead, TextError>
+    requires { length bytes.now + first_line < 2 ^ 32 }
+    ensures reads { Reads result (script_of net.now first_line bytes.now) }
+    ensures within { IfOk result (λ r. IsScriptOf net.now r.script) }
+{
+    let mut stage = Stage::new(alloc, given_arcs(net));
+    let mut lines = Lines::new(bytes);
+    while let Some(text) = lines.next_line() {
+        let Ok(next) = take_line(alloc, net, &mut stage, text) else {
+            return Err(TextError::OutOfMemory);
+        };
+        match next {
+            Next::Goes => {}
+            Next::Ends => {
+                return Ok(ScriptRead {
+                    script: Script {
+                        commands: stage.commands,
+                    },
+                    used: lines.used,
+                    lines: lines.count,
+                });
+            }
+            Next::Fails(cause) => {
+                return Err(TextError::At {
+                    line: first_line + (lines.count - 1),
+                    cause,
+                });
+            }
+        }
+    }
+    Err(TextError::At {
+        line: first_line + lines.count,
+        cause: stage.missing(),
+    })
+}
+
+/// How many arcs were given.
+fn given_arcs(net: &Network) -> u32
+    ensures count { result ≡ length net.now.given }
+    ensures few { result ≤ 65536 }
+{
+    net.arcs() - 2 * (net.points() - 1)
+}
+
+/// What a line asks for; `inside` says whether a batch is begun.
+fn line_in(
+    alloc: Global,
+    net: &Network,
+    inside: bool,
+    text: &[u8],
+) -> Result<Result<Line, TextCause>, OutOfMemory>
+    ensures { IfOk result (λ r. r ≡ line_in net.now inside text.now) }
+{
+    if is_skipped(text) {
+        return Ok(Ok(Line::Nothing));
+    }
+    if !is_text(text) {
+        return Ok(Err(TextCause::NotText));
+    }
+    let fields = fields_of(alloc, text, TOO_MANY_FIELDS)?;
+    Ok(line_of(net, inside, fields.as_slice()))
+}
+
+/// Takes a line.
+fn take_line(
+    alloc: Global,
+    net: &Network,
+    stage: &mut Stage,
+    text: &[u8],
+) -> Result<Next, OutOfMemory>
+    ensures { IfOk result (λ n. Takes n (reading_of stage.new) (line_does net.now (reading_of stage.old) text.now)) }
+{
+    match line_in(alloc, net, stage.batch.is_some(), text)? {
+        Ok(line) => stage.take(alloc, line),
+        Err(cause) => Ok(Next::Fails(cause)),
+    }
+}

@@ -1,0 +1,4 @@
+-- What the contracts of sources and sinks cite.
+pub mod Bytes
+pub mod Causes
+pub mod Memory

@@ -1,0 +1,9 @@
+pub mod WalkLemmas
+pub mod Bridges
+pub mod NetLemmas
+pub mod ArcLemmas
+pub mod CopyLemmas
+pub mod FlagLemmas
+pub mod NameLemmas
+pub mod ValidLemmas
+pub mod FindLemmas

@@ -1,0 +1,16 @@
+pub mod Arcs
+pub mod Walks
+pub mod ArcWalks
+pub mod Schedules
+pub mod Laws
+pub mod Net
+pub mod Kinds
+pub mod Joined
+pub mod Inner
+pub mod Conflicts
+pub mod Summaries
+pub mod Refusals
+pub mod Valid
+pub mod Flags
+pub mod Views
+pub mod Times

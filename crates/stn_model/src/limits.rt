@@ -1,0 +1,19 @@
+//! The limits of networks and schedules.
+
+/// The most agents of a network.
+pub const MOST_AGENTS: u32 = 64;
+
+/// The most points of a network, the reference point among them.
+pub const MOST_POINTS: u32 = 4096;
+
+/// The most arcs that can be added to a network. The two arcs of each point with the reference point come on top.
+pub const MOST_ARCS: u32 = 65_536;
+
+/// The greatest horizon, and the greatest magnitude of a bound: 2^40.
+pub const GREATEST_BOUND: i64 = 1_099_511_627_776;
+
+/// The greatest magnitude of a time: 2^100.
+pub const GREATEST_TIME: i128 = 1_267_650_600_228_229_401_496_703_205_376;
+
+/// The most bytes of a name.
+pub const LONGEST_NAME: usize = 64;

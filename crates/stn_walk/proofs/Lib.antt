@@ -1,0 +1,12 @@
+pub mod Steps
+pub mod Different
+pub mod Heads
+pub mod Cuts
+pub mod Rotation
+pub mod Marks
+pub mod Trails
+pub mod Pruned
+pub mod Meets
+pub mod Cycles
+pub mod Magnitude
+pub mod ArcWalks

@@ -1,0 +1,6 @@
+pub mod Parts
+pub mod Marks
+pub mod Trails
+pub mod Views
+pub mod ClosedParts
+pub mod Laws

@@ -1,0 +1,18 @@
+//! Walks over the arcs of a network: their weights, negative cycles, and pruning.
+#![tactic(auto)]
+
+pub mod cycle;
+pub mod laws;
+mod normal_form;
+mod path;
+pub mod pruning;
+pub mod walk;
+pub mod weights;
+
+pub use cycle::is_negative_cycle;
+pub use pruning::{prune, prune_cycle};
+pub use walk::Walk;
+pub use weights::weight;
+
+#[cfg(test)]
+mod tests;

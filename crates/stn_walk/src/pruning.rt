@@ -1,0 +1,71 @@
+//! Pruning: walks without their closed parts, and negative cycles from negative closed walks.
+ghost use Rattle.std.specs.Prelude.{◌≡◌, ◌<◌, ◌≤ℤ◌, length, IfOk, map};
+ghost use Rattle.std.specs.List.{All, Contains};
+ghost use Rattle.stn_model.specs.Net.{arcs_of};
+ghost use Rattle.stn_model.specs.Walks as walks;
+ghost use Rattle.stn_walk.specs.Parts.{NoPartIsNegative};
+
+use crate::normal_form::{place_of_least, turn};
+use crate::path::Path;
+use crate::walk::Walk;
+use std::alloc::Global;
+use stn_model::{Network, OutOfMemory, PointId};
+
+/// A walk between the same points that passes no point twice, of arcs of the walk. It is no heavier
+/// where no closed part of the walk is negative. One pass: each closed part is dropped as soon as
+/// the walk comes back to the point where it began.
+pub fn prune(
+    alloc: Global,
+    net: &Network,
+    walk: &Walk,
+    from: PointId,
+    to: PointId,
+) -> Result<Walk, OutOfMemory>
+    requires { walks.IsWalk (arcs_of net.now) from.0 to.0 walk.now }
+    ensures walk { IfOk result (walks.IsWalk (arcs_of net.now) from.0 to.0) }
+    ensures simple { IfOk result (walks.PassesNoPointTwice (arcs_of net.now) from.0 to.0) }
+    ensures part { IfOk result (All (Contains walk.now)) }
+    ensures weight { IfOk result (λ w. NoPartIsNegative (arcs_of net.now) walk.now → walks.weight (arcs_of net.now) w ≤ℤ walks.weight (arcs_of net.now) walk.now) }
+{
+    let arcs = walk.arcs();
+    if arcs.len() == 0 {
+        return Ok(Walk::new(Vec::new(alloc)));
+    }
+    let _first = net.arc(arcs[0]);
+    let mut path = Path::start(alloc, net.points(), from.0)?;
+    for n in arcs {
+        path.go_on(net, *n)?;
+    }
+    Ok(Walk::new(path.into_arcs()))
+}
+
+/// A negative cycle of arcs of a closed walk whose weight is below 0, in normal form: it begins
+/// with its arc of least number. One pass finds the first closed part that sums below 0 once the
+/// closed parts before it are dropped; one more turns it.
+pub fn prune_cycle(alloc: Global, net: &Network, walk: &Walk) -> Result<Walk, OutOfMemory>
+    requires { walks.IsNegativeClosed (arcs_of net.now) walk.now }
+    ensures cycle { IfOk result (walks.IsNegativeCycle (arcs_of net.now)) }
+    ensures normal { IfOk result walks.IsNormal }
+    ensures part { IfOk result (All (Contains walk.now)) }
+{
+    let cycle = negative_part(alloc, net, walk.arcs())?;
+    let least = place_of_least(cycle.as_slice());
+    let turned = turn(alloc, cycle.as_slice(), least)?;
+    Ok(Walk::new(turned))
+}
+
+/// A negative cycle of arcs of a closed walk whose weight is below 0.
+fn negative_part(alloc: Global, net: &Network, arcs: &[u32]) -> Result<Vec<u32>, OutOfMemory>
+    requires { walks.IsNegativeClosed (arcs_of net.now) arcs.now }
+    ensures cycle { IfOk result (λ v. walks.IsNegativeCycle (arcs_of net.now) v.items) }
+    ensures part { IfOk result (λ v. All (Contains arcs.now) v.items) }
+{
+    let start = net.arc(arcs[0]).from.0;
+    let mut path = Path::start(alloc, net.points(), start)?;
+    for n in arcs {
+        if let Some(closed) = path.go_on_or_close(alloc, net, *n)? {
+            return Ok(closed);
+        }
+    }
+    unreachable!()
+}
