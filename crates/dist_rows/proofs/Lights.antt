@@ -1,5 +1,5 @@
 -- Rows of light cells stay light.
-use Rattle.std.proofs.Common.{◌≡◌, ℕ, Bool, true, false, ◌&&◌, Option, Some, None, sym, subst}
+use Rattle.std.proofs.Common.{◌≡◌, ℕ, true, false, ◌&&◌, Option, Some, None, sym, subst}
 use Rattle.std.specs.Prelude.{◌==◌, if◌then◌else◌, int_lt, IfSome}
 use Rattle.dist_rows.specs.declared.cell.Cell.{Cell}
 use Rattle.dist_rows.specs.Cells.{lesser, lowered, IsLight, AllLight}

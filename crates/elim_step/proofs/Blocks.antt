@@ -1,5 +1,5 @@
 -- Blocks grow by one place, or by an interval without one.
-use Rattle.std.proofs.Common.{◌*◌, zero, suc, ◌≡◌, ℕ, ◌+◌, ◌<◌, ◌≤◌, List, [], ◌∷◌, ◌++◌, Bool, true, false, ◌&&◌, ◌||◌, Option, Some, None, ap, sym, ◌∙◌, refl, length, arith, subst, inl, inr, length-append, get_or, add-one}
+use Rattle.std.proofs.Common.{◌*◌, zero, suc, ◌≡◌, ℕ, ◌+◌, ◌<◌, ◌≤◌, List, [], ◌∷◌, ◌++◌, Bool, true, false, ◌&&◌, ◌||◌, Option, Some, None, ap, sym, ◌∙◌, refl, length, arith, subst, inl, inr, length-append, add-one}
 use Rattle.std.proofs.Math.ListN.{get_or-eq_default}
 use Rattle.std.proofs.lemmas.Bool.{cases_lt}
 use Rattle.std.specs.Prelude.{◌==◌, if◌then◌else◌, nat_le, nat_lt, is_some}

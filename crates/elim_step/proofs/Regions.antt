@@ -1,5 +1,12 @@
 -- Regions of pairs, one after another.
-use Rattle.std.proofs.Common.{◌≡◌, ℕ, ◌<◌, ◌≤◌, List, [], ◌∷◌, ◌++◌, Bool, true, false, ◌&&◌, ◌||◌, not, Option, Some, None, ap, sym, ◌∙◌, refl, arith, take, get_or, length, ◌+◌}
+--
+-- An elimination of k lowers the pairs of its remaining neighbours in some order: by pairs, rows and blocks. Each part of
+-- that work lowers the pairs of a region, by the sum of the cells (i, k) and (k, j) as they stand at that moment. No
+-- region has a pair with k, so these two cells are still those of the beginning: the sum of a pair is the same whenever
+-- it is formed. And a cell that is lowered to the same sum twice is lowered once. So two regions, one after the other,
+-- are their union (`region-join`), whatever they share, and the order does not matter. Each loop keeps "the cells are
+-- those after the region so far", and at its end the region is that of all pairs of neighbours.
+use Rattle.std.proofs.Common.{◌≡◌, ℕ, ◌<◌, ◌≤◌, List, Bool, true, false, ◌&&◌, ◌||◌, not, Option, Some, None, ap, sym, ◌∙◌, refl, arith, take, get_or, length, ◌+◌}
 use Rattle.std.specs.Prelude.{◌==◌, if◌then◌else◌, int_lt, nat_lt, nat_le}
 use Rattle.std.proofs.lemmas.Bool.Decides.{nat_tests}
 use Rattle.std.proofs.lemmas.Int.{ints}

@@ -1,4 +1,4 @@
--- One place through one other, one place, and all places.
+-- A revisit, part by part: one place through one other, one place through all, and all places; at the end the least sums.
 use Rattle.std.proofs.Common.{zero, suc, ◌≡◌, ◌≢◌, ℕ, ◌<◌, List, [], ◌∷◌, ◌++◌, Bool, true, false, ◌&&◌, ◌||◌, not, Option, Some, None, ap, sym, ◌∙◌, refl, length, take, get_or, arith, subst, inl, inr, ◌⊎◌}
 use Rattle.std.specs.Prelude.{ℤ, pos, ◌≤ℤ◌, ◌<ℤ◌, ◌==◌, if◌then◌else◌, int_lt, IfSome}
 use Rattle.std.proofs.lemmas.Bool.Decides.{nat_tests}

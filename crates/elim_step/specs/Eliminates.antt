@@ -4,7 +4,7 @@
 --   eliminated                  the cells after k is eliminated
 --   count_below                 how many places pass a test
 --   StepGives                   the answer of an elimination with the cells before and after
-use Rattle.std.specs.Prelude.{◌≡◌, ℕ, ◌+◌, ◌<◌, pos, ◌+ℤ◌, int_lt, List, Bool, true, false, ◌&&◌, ◌||◌, not, ◌==◌, Option, Some, None, is_some, slice_index_or, if◌then◌else◌}
+use Rattle.std.specs.Prelude.{◌≡◌, ℕ, ◌+◌, ◌<◌, pos, ◌+ℤ◌, int_lt, List, Bool, true, false, ◌&&◌, not, ◌==◌, Option, Some, None, slice_index_or, if◌then◌else◌}
 use Rattle.std.proofs.Common.{zero, suc}
 use Rattle.dist_rows.specs.declared.cell.Cell.{Cell}
 use Rattle.dist_rows.specs.declared.cell.Via.TheVariants.{Through}

@@ -1,4 +1,4 @@
--- Which candidate is picked.
+-- Which candidate is picked: that of least key, and of least number among those, for keys that a closure may answer.
 use Rattle.std.specs.Prelude.{◌≡◌, ℕ, ◌<◌, List, Bool, true, false, ◌&&◌, ◌||◌, ◌==◌, nat_lt, if◌then◌else◌, Option, Some, None, length, slice_index_or}
 use Rattle.elim_step.specs.declared.pick.Candidate.{Candidate}
 use Rattle.elim_step.specs.declared.pick.Rank.{Rank}

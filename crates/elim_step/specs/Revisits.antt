@@ -1,4 +1,7 @@
--- One revisit.
+-- One revisit: the final cells between a place k and its later places.
+--   out_sum, in_sum   the sum from k through m to j, and from j through m to k
+--   IsLeastSum        the least of such sums over the later places
+--   Revisits          what a revisit changes; the words ending in `after` and `lowered` say it of its parts
 use Rattle.std.specs.Prelude.{◌≡◌, ℕ, pos, ◌≤ℤ◌, List, [], ◌∷◌, Bool, true, false, ◌&&◌, not, ◌==◌, Option, Some, None, IfSome, if◌then◌else◌}
 use Rattle.dist_rows.specs.declared.cell.Cell.{Cell}
 use Rattle.dist_rows.specs.declared.cell.Via.TheVariants.{Given}

@@ -1,5 +1,5 @@
 -- Which lists of entries are summaries: pairs strictly rise by from and to, ends differ, weights have magnitude at most 2^53.
-use Rattle.std.specs.Prelude.{ℕ, List, [], ◌∷◌, Bool, true, ◌&&◌, ◌||◌, not, nat_lt, ◌==◌, nat_le, nat_abs, Option, Some, None}
+use Rattle.std.specs.Prelude.{List, [], ◌∷◌, Bool, true, ◌&&◌, ◌||◌, not, nat_lt, ◌==◌, nat_le, nat_abs, Option, Some, None}
 use Rattle.elim_step.specs.declared.summary.SummaryEntry.{SummaryEntry}
 
 -- whether the ends differ and the weight is in range

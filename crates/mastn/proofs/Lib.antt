@@ -1,3 +1,4 @@
 mod LawLemmas
 mod MeaningLemmas
 mod ReportLemmas
+mod WordLemmas

@@ -1,11 +1,43 @@
--- Jobs by the words of the command line.
-use Rattle.std.specs.Prelude.{ℕ, List, [], ◌∷◌, Option, Some, None, codes, if◌then◌else◌}
+-- Jobs by the words of the command line: job_of, and what its numbers are.
+use Rattle.std.specs.Prelude.{ℕ, ◌≤◌, ℤ, Bool, pos, List, [], ◌∷◌, ◌==◌, ◌&&◌, ◌||◌, length, nat_eq, nat_lt, int_le, slice_index, unsigned_abs, Option, Some, None, codes, if◌then◌else◌}
 use Rattle.std.specs.Str.{bytes_eq}
+use Rattle.net_text.specs.Numbers.{number_of}
 use Rattle.mastn.specs.declared.words.Job.{Job}
-use Rattle.mastn.specs.declared.words.Job.TheVariants.{Check}
+use Rattle.mastn.specs.declared.words.Job.TheVariants.{Check, Gen}
 
--- the table of words
+-- the number of a word of 1 to 10 digits
+abbrev pub digits_of : List ℕ → Option ℤ
+digits_of word = if nat_lt 10 (length word) || nat_eq (length word) 0 || (slice_index word 0 == 45) then None else number_of word
+
+-- a generated network's number is at most 2147483645, and its size from 1 to 32
+abbrev pub are_within : ℤ → ℤ → Bool
+are_within number size = int_le (pos 0) number && int_le number (pos 2147483645) && int_le (pos 1) size && int_le size (pos 32)
+
+abbrev pub gen_within : ℤ → ℤ → Option Job
+gen_within number size = if are_within number size then Some (Gen (unsigned_abs number) (unsigned_abs size)) else None
+
+abbrev pub gen_of : Option ℤ → Option ℤ → Option Job
+gen_of None size = None
+gen_of (Some number) None = None
+gen_of (Some number) (Some size) = gen_within number size
+
+-- the numbers of a job are in range
+abbrev pub IsWithinLimits : Job → Type 0
+IsWithinLimits Check = Unit {0}
+IsWithinLimits (Gen number size) = (number ≤ 2147483645) × (1 ≤ size) × (size ≤ 32)
+
+-- a lone word
+abbrev pub lone_job : List ℕ → Option Job
+lone_job word = if bytes_eq word (codes "check") then Some Check else None
+
+-- a word with a number and a size
+abbrev pub sized_job : List ℕ → List ℕ → List ℕ → Option Job
+sized_job word number size = if bytes_eq word (codes "gen") then gen_of (digits_of number) (digits_of size) else None
+
+-- the table of words: none, or `check`; `gen NUMBER SIZE`
 abbrev pub job_of : List (List ℕ) → Option Job
 job_of [] = Some Check
-job_of (word ∷ []) = if bytes_eq word (codes "check") then Some Check else None
-job_of (word ∷ next ∷ more) = None
+job_of (word ∷ []) = lone_job word
+job_of (word ∷ number ∷ []) = None
+job_of (word ∷ number ∷ size ∷ []) = sized_job word number size
+job_of (word ∷ number ∷ size ∷ next ∷ more) = None

@@ -4,3 +4,4 @@ pub mod Reports
 pub mod Checks
 pub mod Runs
 pub mod Laws
+pub mod Gens

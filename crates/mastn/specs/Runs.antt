@@ -44,3 +44,10 @@ abbrev pub refusal_word : ReadRefusal → List ℕ
 refusal_word refusal.ReadFault = codes "ReadFault"
 refusal_word refusal.TooLong = codes "InputTooLong"
 refusal_word refusal.OutOfMemory = codes "OutOfMemory"
+
+-- a job that reads nothing: the answer that it means to give, with its text, and what became of that text
+pub record RunsAlone (says : Status → List ℕ → Type 0) (taken taken_after : Option (List ℕ)) (writes writes_after : ℕ) (answer : Status) : Type 0 where
+  pub meant : Status
+  pub text : List ℕ
+  pub means : says meant text
+  pub writing : Writes meant text writes writes_after taken taken_after answer

@@ -2,6 +2,7 @@
 #![tactic(auto)]
 
 mod check;
+mod generate;
 mod laws;
 mod report;
 mod run;

@@ -1,13 +1,15 @@
 //! The top call: from the words and the input to the status and the output.
-ghost use Rattle.std.specs.Prelude.{◌≡◌, ◌≤◌, codes, map, None, Some, length};
+ghost use Rattle.std.specs.Prelude.{◌≡◌, ℕ, ◌≤◌, codes, map, None, Some, length};
 ghost use Rattle.mastn.specs.Checks.{CheckSays};
+ghost use Rattle.mastn.specs.Gens.{GenSays};
 ghost use Rattle.mastn.specs.Jobs.{job_of};
 ghost use Rattle.mastn.specs.Reports.{refusal_line};
-ghost use Rattle.mastn.specs.Runs.{Writes, Runs, refusal_status, refusal_word};
+ghost use Rattle.mastn.specs.Runs.{Writes, Runs, RunsAlone, refusal_status, refusal_word};
 ghost use Rattle.mastn.specs.declared.status.Status.TheVariants as status;
 ghost use Rattle.mastn.specs.declared.words.Job.TheVariants as job;
 
 use crate::check::answer_check;
+use crate::generate::generated_text;
 use crate::status::Status;
 use crate::words::{Job, read_words};
 use std::alloc::Global;
@@ -31,12 +33,16 @@ pub fn run<S: Source, K: Sink>(
         × Writes status.WordsBad (refusal_line (codes "WordsBad")) (K.faults sink.old) (K.faults sink.new) (K.taken sink.old) (K.taken sink.new) result }
     ensures check { job_of (map (λ w. w.items) words.now) ≡ Some job.Check
         → Runs CheckSays (S.left source.old) (S.left source.new) (S.faults source.old) (S.faults source.new) (K.taken sink.old) (K.taken sink.new) (K.faults sink.old) (K.faults sink.new) result }
+    // Nothing is read.
+    ensures generated { (number size : ℕ) → job_of (map (λ w. w.items) words.now) ≡ Some (job.Gen number size) → (source.new ≡ source.old)
+        × RunsAlone (GenSays number size) (K.taken sink.old) (K.taken sink.new) (K.faults sink.old) (K.faults sink.new) result }
     ensures reads_later { S.faults source.old ≤ S.faults source.new }
     ensures writes_later { K.faults sink.old ≤ K.faults sink.new }
 {
     match read_words(words) {
         None => deliver(sink, b"error 0 WordsBad\n", Status::WordsBad),
         Some(Job::Check) => run_check(alloc, source, sink),
+        Some(Job::Gen { number, size }) => run_gen(alloc, number, size, sink),
     }
 }
 
@@ -52,6 +58,20 @@ pub fn run_check<S: Source, K: Sink>(alloc: Global, source: &mut S, sink: &mut K
     };
     match answer_check(alloc, bytes.as_slice()) {
         Ok(answer) => deliver(sink, answer.text.as_slice(), answer.status),
+        Err(_) => refuse(sink, ReadRefusal::OutOfMemory),
+    }
+}
+
+/// Writes the generated network of a number and a size in its plain form, and the script lines `windows` and `done`. Nothing is read.
+pub fn run_gen<K: Sink>(alloc: Global, number: u32, size: u32, sink: &mut K) -> Status
+    requires number_high { number ≤ 2147483645 }
+    requires size_low { 1 ≤ size }
+    requires size_high { size ≤ 32 }
+    ensures generated { RunsAlone (GenSays number size) (K.taken sink.old) (K.taken sink.new) (K.faults sink.old) (K.faults sink.new) result }
+    ensures writes_later { K.faults sink.old ≤ K.faults sink.new }
+{
+    match generated_text(alloc, number, size) {
+        Ok(text) => deliver(sink, text.as_slice(), Status::Done),
         Err(_) => refuse(sink, ReadRefusal::OutOfMemory),
     }
 }

@@ -34,7 +34,40 @@ fn answer(
 fn words_and_inputs_have_their_answers(rt: HostRuntime) -> Result<(), Fail> {
     let check: &[u8] = b"check";
     let help: &[u8] = b"help";
-    let cases: [(&[&[u8]], &[u8], Status, &[u8]); 9] = [
+    let generate: &[u8] = b"gen";
+    let (zero, one, many): (&[u8], &[u8], &[u8]) = (b"0", b"0000000001", b"33");
+    let (minus, long): (&[u8], &[u8]) = (b"-0", b"00000000001");
+    let cases: [(&[&[u8]], &[u8], Status, &[u8]); 14] = [
+        (
+            &[generate, zero, one],
+            b"",
+            Status::Done,
+            b"mastn 1\nhorizon 1000000\nagent a0 early\npoint a0 a0p0\npoint a0 a0p1\narc a0p0 a0p1 758160\narc a0p1 a0p0 -756637\nend\nwindows\ndone\n",
+        ),
+        (
+            &[generate, zero, many],
+            b"",
+            Status::WordsBad,
+            b"error 0 WordsBad\n",
+        ),
+        (
+            &[generate, minus, one],
+            b"",
+            Status::WordsBad,
+            b"error 0 WordsBad\n",
+        ),
+        (
+            &[generate, zero, long],
+            b"",
+            Status::WordsBad,
+            b"error 0 WordsBad\n",
+        ),
+        (
+            &[generate, zero],
+            b"",
+            Status::WordsBad,
+            b"error 0 WordsBad\n",
+        ),
         (&[], STORED, Status::Done, b"consistent\ntime a 0\n"),
         (&[check], STORED, Status::Done, b"consistent\ntime a 0\n"),
         (&[help], STORED, Status::WordsBad, b"error 0 WordsBad\n"),

@@ -1,21 +1,84 @@
 //! The words of the command line.
-ghost use Rattle.std.specs.Prelude.{◌≡◌, map};
-ghost use Rattle.mastn.specs.Jobs.{job_of};
+ghost use Rattle.std.specs.Prelude.{◌≡◌, ◌≤◌, IfSome, map};
+ghost use Rattle.mastn.specs.Jobs.{job_of, lone_job, sized_job, digits_of, gen_of, gen_within, IsWithinLimits};
+
+use net_text::numbers::number_of;
 
 /// What the words of the command line ask for.
 #[derive(Clone, Copy, Debug, PartialEq, Eq)]
 pub enum Job {
     /// No words, or `check`: read a network and decide it.
     Check,
+    /// `gen NUMBER SIZE`: write the generated network of that number and size.
+    Gen { number: u32, size: u32 },
 }
 
 /// The job that the words ask for, or None exactly where they are no job.
 pub fn read_words(words: &[Vec<u8>]) -> Option<Job>
-    ensures { result ≡ job_of (map (λ w. w.items) words.now) }
+    ensures job { result ≡ job_of (map (λ w. w.items) words.now) }
+    ensures within { IfSome result IsWithinLimits }
 {
     match words {
         [] => Some(Job::Check),
-        [word] if word.as_slice() == b"check".as_slice() => Some(Job::Check),
+        [word] => read_lone(word.as_slice()),
+        [word, number, size] => { read_sized(word.as_slice(), number.as_slice(), size.as_slice()) }
         _ => None,
     }
+}
+
+/// The job of a lone word.
+fn read_lone(word: &[u8]) -> Option<Job>
+    ensures job { result ≡ lone_job word.now }
+    ensures within { IfSome result IsWithinLimits }
+{
+    if word == b"check".as_slice() {
+        return Some(Job::Check);
+    }
+    None
+}
+
+/// The job of a word with a number and a size.
+fn read_sized(word: &[u8], number: &[u8], size: &[u8]) -> Option<Job>
+    ensures job { result ≡ sized_job word.now number.now size.now }
+    ensures within { IfSome result IsWithinLimits }
+{
+    if word == b"gen".as_slice() {
+        return read_gen(read_digits(number), read_digits(size));
+    }
+    None
+}
+
+/// The number that a word of 1 to 10 digits writes.
+fn read_digits(word: &[u8]) -> Option<i64>
+    ensures { result ≡ digits_of word.now }
+{
+    if word.len() > 10 || word.is_empty() || word[0] == b'-' {
+        return None;
+    }
+    number_of(word)
+}
+
+/// The job `gen` of two numbers, where they are in range.
+fn read_gen(number: Option<i64>, size: Option<i64>) -> Option<Job>
+    ensures job { result ≡ gen_of number size }
+    ensures within { IfSome result IsWithinLimits }
+{
+    match (number, size) {
+        (Some(number), Some(size)) => gen_within(number, size),
+        _ => None,
+    }
+}
+
+/// The job `gen` of a number and a size, where they are in range.
+fn gen_within(number: i64, size: i64) -> Option<Job>
+    ensures job { result ≡ gen_within number size }
+    ensures within { IfSome result IsWithinLimits }
+{
+    if 0 <= number && number <= 2_147_483_645 && 1 <= size && size <= 32 {
+        return Some(Job::Gen {
+            number: number as u32,
+            size: size as u32,
+        });
+    }
+    None
 }

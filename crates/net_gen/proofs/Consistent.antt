@@ -4,7 +4,7 @@
 -- 900000, and so from 0 to 1000000 after the reference point. Each given arc belongs to a bound that was laid round the distance d
 -- of the times of its two points: one says that the distance is at most d + h, the other that it is at least d - l, with l and h
 -- draws, and so not below 0. So all that is owed is that the time which an arc names is the time from which d was taken.
-use Rattle.std.proofs.Common.{◌≡◌, ℕ, zero, suc, ◌+◌, ◌-◌, ◌*◌, ◌/◌, ◌%◌, ◌<◌, ◌≤◌, List, [], ◌∷◌, ◌++◌, length, map, get_or, refl, sym, ap, ◌∙◌, subst, arith, add-one, ℤ, pos, neg_ℤ, ◌+ℤ◌, ◌-ℤ◌, ◌≤ℤ◌}
+use Rattle.std.proofs.Common.{◌≡◌, ℕ, zero, suc, ◌+◌, ◌*◌, ◌/◌, ◌<◌, ◌≤◌, List, [], ◌∷◌, ◌++◌, length, map, get_or, refl, sym, ap, ◌∙◌, subst, arith, add-one, ℤ, pos, ◌-ℤ◌, ◌≤ℤ◌}
 use Rattle.std.specs.List.{flat_map, range_with_len, All}
 use Rattle.std.proofs.lemmas.Int.{ints}
 use Rattle.std.proofs.lemmas.List.Elements.{All-append}
@@ -12,8 +12,8 @@ use Rattle.std.proofs.lemmas.List.FromFn.{get_or-map-range_with_len, length-map-
 use Rattle.std.proofs.Math.Nat.{mod-lt}
 use Rattle.stn_model.specs.declared.ids.Constraint.{Constraint}
 use Rattle.stn_model.specs.Arcs.{no_arc}
-use Rattle.stn_model.specs.Net.{Net, point_count, horizon_arcs, horizon_pair, arcs_of}
-use Rattle.stn_model.specs.Schedules.{time_at, KeepsArcs, Satisfies, IsConsistent}
+use Rattle.stn_model.specs.Net.{point_count, horizon_arcs, horizon_pair, arcs_of}
+use Rattle.stn_model.specs.Schedules.{time_at, IsConsistent}
 use Rattle.net_gen.specs.Draws.{drawn, value_after}
 use Rattle.net_gen.specs.Generated.{width, point_total, gap_total, gap_start, handover_total, time_of, bound_arcs, drawn_bound, chain_at, handover_at, draws_before, chains, handovers, generated}
 use Rattle.net_gen.proofs.Places.{agent_fits, gap_fits, flat_map-range_with_len_more}

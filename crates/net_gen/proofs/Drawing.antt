@@ -1,5 +1,5 @@
 -- The sequence of draws, one after another.
-use Rattle.std.proofs.Common.{◌≡◌, ℕ, zero, suc, ◌+◌, ◌*◌, ◌%◌, refl, sym, ap, ◌∙◌, add-one}
+use Rattle.std.proofs.Common.{◌≡◌, ℕ, ◌+◌, ◌*◌, ◌%◌, refl, sym, ap, ◌∙◌, add-one}
 use Rattle.net_gen.specs.Draws.{value_after}
 
 pub value_after-zero : (number : ℕ) → value_after number 0 ≡ number + 1

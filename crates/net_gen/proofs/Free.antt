@@ -1,17 +1,14 @@
 -- What a network that is being generated does not refuse.
-use Rattle.std.proofs.Common.{◌≡◌, ◌≢◌, ℕ, zero, suc, ◌+◌, ◌-◌, ◌*◌, ◌/◌, ◌%◌, ◌^◌, ◌<◌, ◌≤◌, Bool, true, false, cond, not, nat_eq, nat_le, nat_lt, List, [], ◌∷◌, ◌++◌, length, map, get_or, Option, Some, None, is_some, refl, sym, ap, ◌∙◌, arith, ℤ, pos, neg_ℤ, ◌≤ℤ◌, rules}
+use Rattle.std.proofs.Common.{◌≡◌, ◌≢◌, ℕ, suc, ◌/◌, ◌%◌, ◌<◌, Bool, true, false, nat_le, nat_lt, List, [], ◌∷◌, length, map, get_or, None, refl, ap, ◌∙◌, arith, ℤ, pos, neg_ℤ, ◌≤ℤ◌, rules}
 use Rattle.std.specs.Bool.{Decides}
 use Rattle.std.specs.List.{position, position_or_len, range_with_len}
 use Rattle.std.specs.Str.{bytes_eq}
-use Rattle.std.specs.Option.{option_map}
-use Rattle.std.proofs.lemmas.Int.{ints}
 use Rattle.std.proofs.lemmas.Bool.Decides.{nat_tests}
 use Rattle.std.proofs.lemmas.Slice.Eq.{bytes_eq-Decides}
 use Rattle.std.proofs.lemmas.List.{get_or-map, length-map}
 use Rattle.std.proofs.lemmas.List.FromFn.{get_or-map-range_with_len, length-map-range_with_len}
 use Rattle.std.proofs.Math.Nat.{div-le_self, mod-le}
-use Rattle.stn_model.specs.declared.error.NetError.{NetError}
-use Rattle.stn_model.specs.Net.{Net, Agent, Place, agent_names, point_names, find_agent, find_point, point_count, no_agent, no_place}
+use Rattle.stn_model.specs.Net.{Net, Agent, Place, find_agent, find_point, point_count, no_agent, no_place}
 use Rattle.stn_model.specs.Refusals.{agent_refusal, point_refusal, arc_refusal, is_name}
 use Rattle.net_gen.specs.Generated.{agent_name, agent_at, point_name, place_at, width}
 use Rattle.net_gen.proofs.NameForms.{is_name-agent_name, is_name-point_name, agent_names_differ, place_names_differ}

@@ -7,11 +7,17 @@ use stn_model::Lean;
 /// The first field of a line after the header.
 #[derive(Clone, Copy, Debug, PartialEq, Eq)]
 pub enum Word {
+    /// The horizon.
     Horizon,
+    /// An agent.
     Agent,
+    /// A point.
     Point,
+    /// Two arcs, there and back.
     Bound,
+    /// One arc.
     Arc,
+    /// The end of the text.
     End,
 }
 

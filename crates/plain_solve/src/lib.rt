@@ -19,6 +19,8 @@ mod order;
 mod queue;
 mod relax;
 mod solve;
+#[cfg(test)]
+mod tests;
 mod trail;
 
 pub use least::{FromPoint, plain_from};

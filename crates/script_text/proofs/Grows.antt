@@ -15,7 +15,7 @@ use Rattle.script_text.specs.declared.line.Line.{Line}
 use Rattle.script_text.specs.declared.line.Line.TheVariants as line
 use Rattle.script_text.specs.declared.read.ScriptRead.{ScriptRead}
 use Rattle.script_text.specs.Lines.{line_in}
-use Rattle.script_text.specs.Scripts.{Reading, Step, IsCommandOf, IsScriptOf, arcs_of, arcs_in, may_stand, decoupled_by, stand_in_order, beginning, with_command, unless, is_full, add_decoupled, tighten, decouple, begin_batch, add_to_batch, add_arc, close_batch, close, does, does_what, line_does, conclude, read_from, script_of}
+use Rattle.script_text.specs.Scripts.{Reading, Step, IsCommandOf, IsScriptOf, command_arcs, script_arcs, may_stand, decoupled_by, stand_in_order, beginning, with_command, unless, is_full, add_decoupled, tighten, decouple, begin_batch, add_to_batch, close_batch, does, does_what, line_does, conclude, read_from, script_of}
 use Rattle.script_text.specs.Scripts.Step.{Goes, Ends, Fails}
 use Rattle.script_text.proofs.Within.{IsLineOf, line_in_is}
 
@@ -23,9 +23,9 @@ all_more : {X : Type 0} (P : X → Type 0) (xs : List X) (x : X) → AllByRecurs
 all_more P [] x h k = (k, tt)
 all_more P (y ∷ ys) x h k = (h.0, all_more P ys x h.1 k)
 
-arcs_in-push : (cs : List Command) (c : Command) → arcs_in (cs ++ c ∷ []) ≡ arcs_in cs + arcs_of c
-arcs_in-push [] c = omega arith
-arcs_in-push (d ∷ cs) c = let rest = arcs_in-push cs c in omega arith
+script_arcs-push : (cs : List Command) (c : Command) → script_arcs (cs ++ c ∷ []) ≡ script_arcs cs + command_arcs c
+script_arcs-push [] c = omega arith
+script_arcs-push (d ∷ cs) c = let rest = script_arcs-push cs c in omega arith
 
 -- whether the agents are decoupled after commands
 abbrev pub decoupled_after : Bool → List Command → Bool
@@ -67,7 +67,7 @@ batch_arcs (Some arcs) = length arcs
 pub record IsReading (net : Net) (r : Reading) : Type 0 where
   pub commands_are : AllByRecursion (IsCommandOf net) r.commands
   pub batch_is : IsBatchOf net r.decoupled r.batch
-  pub counted : r.arcs ≡ length net.given + arcs_in r.commands + batch_arcs r.batch
+  pub counted : r.arcs ≡ length net.given + script_arcs r.commands + batch_arcs r.batch
   pub limit : r.arcs ≤ 65536
   pub order : stand_in_order false r.commands ≡ true
   pub side : decoupled_after false r.commands ≡ r.decoupled
@@ -83,10 +83,10 @@ unless_is net false c s k = k refl
 
 pushed : (net : Net) (r : Reading) (c : Command) (batch : Option (List Constraint)) (decoupled : Bool) (arcs : ℕ)
     → IsReading net r → IsCommandOf net c → may_stand r.decoupled c ≡ true → decoupled_by r.decoupled c ≡ decoupled → IsBatchOf net decoupled batch
-    → arcs + batch_arcs r.batch ≡ r.arcs + arcs_of c + batch_arcs batch → arcs ≤ 65536
+    → arcs + batch_arcs r.batch ≡ r.arcs + command_arcs c + batch_arcs batch → arcs ≤ 65536
     → IsReading net (record { commands = r.commands ++ c ∷ []; batch = batch; decoupled = decoupled; arcs = arcs })
 pushed net r c batch decoupled arcs h ok stands after begun counts few =
-    let sum = arcs_in-push r.commands c in
+    let sum = script_arcs-push r.commands c in
     let counted = h.counted in
     record {
       commands_are = all_more (IsCommandOf net) r.commands c h.commands_are ok;
@@ -94,18 +94,18 @@ pushed net r c batch decoupled arcs h ok stands after begun counts few =
       counted = omega arith;
       limit = few;
       order = stand_in_order-push false r.commands c h.order (ap (λ d. may_stand d c) h.side ∙ stands);
-      side = decoupled_after-push false r.commands c ∙ ap (λ d. decoupled_by d c) h.side ∙ after
+      side = decoupled_after-push false r.commands c ∙ ap (λ d. decoupled_by d c) h.side ∙ after;
     }
 
 -- a command that adds no arc and decouples nothing
-simply : (net : Net) (r : Reading) (c : Command) → IsReading net r → IsCommandOf net c → may_stand r.decoupled c ≡ true → decoupled_by r.decoupled c ≡ r.decoupled → arcs_of c ≡ 0 → IsReading net (with_command r c)
+simply : (net : Net) (r : Reading) (c : Command) → IsReading net r → IsCommandOf net c → may_stand r.decoupled c ≡ true → decoupled_by r.decoupled c ≡ r.decoupled → command_arcs c ≡ 0 → IsReading net (with_command r c)
 simply net r c h ok stands after none = pushed net r c r.batch r.decoupled r.arcs h ok stands after h.batch_is (omega arith) h.limit
 
 not_false : (b : Bool) → not b ≡ false → b ≡ true
 not_false true h = refl
 not_false false h = sym h
 
-add_decoupled_is : (net : Net) (r : Reading) (c : Command) → IsReading net r → IsCommandOf net c → may_stand r.decoupled c ≡ r.decoupled → decoupled_by r.decoupled c ≡ r.decoupled → arcs_of c ≡ 0 → IsStep net (add_decoupled r c)
+add_decoupled_is : (net : Net) (r : Reading) (c : Command) → IsReading net r → IsCommandOf net c → may_stand r.decoupled c ≡ r.decoupled → decoupled_by r.decoupled c ≡ r.decoupled → command_arcs c ≡ 0 → IsStep net (add_decoupled r c)
 add_decoupled_is net r c h ok same after none =
     unless_is net (not r.decoupled) _ _ (λ e. simply net r c h ok (same ∙ not_false r.decoupled e) after none)
 
@@ -152,7 +152,7 @@ add_to_batch_is net r arc (Some arcs) same h ok =
       counted = omega arith;
       limit = room_left r.arcs f;
       order = h.order;
-      side = h.side
+      side = h.side;
     })
 
 close_batch_is : (net : Net) (r : Reading) (b : Option (List Constraint)) → r.batch ≡ b → IsReading net r → IsStep net (close_batch r b)

@@ -2,3 +2,4 @@ pub mod Takes
 pub mod Turns
 pub mod Within
 pub mod Grows
+pub mod Feeds

@@ -1,12 +1,10 @@
 -- A line that is taken is the first of those that are left, and what it does decides what the whole text says.
-use Rattle.std.proofs.Common.{◌≡◌, ℕ, ◌+◌, ◌≤◌, List, length, drop, refl, ap, ◌∙◌, sym, arith, length-drop, Result, Ok, Err}
+use Rattle.std.proofs.Common.{◌≡◌, ℕ, ◌+◌, List, length, ap, ◌∙◌, Ok}
 use Rattle.stn_model.specs.Net.{Net}
 use Rattle.net_text.specs.Lines.{lines, IsTaken}
-use Rattle.net_text.specs.declared.cause.TextCause.{TextCause}
-use Rattle.net_text.specs.declared.cause.TextError.TheVariants.{At}
 use Rattle.script_text.specs.declared.command.Command.{Command}
 use Rattle.script_text.specs.Scripts.{Reading, Step, line_does, conclude, read_from, script_of}
-use Rattle.script_text.specs.Scripts.Step.{Goes, Ends, Fails}
+use Rattle.script_text.specs.Scripts.Step.{Ends}
 
 -- the text says what the lines that are left say from here on
 pub record IsLeft (net : Net) (first : ℕ) (bytes : List ℕ) (r : Reading) (rest : List ℕ) (used count : ℕ) : Type 0 where
@@ -19,24 +17,8 @@ turn : (net : Net) (first : ℕ) (bytes : List ℕ) (r : Reading) (rest : List �
 turn net first bytes r rest used count line left used_after count_after step h taken does =
     h.said ∙ ap (read_from net r first count used) taken.first.splits ∙ rw (taken.drops, taken.uses, taken.one_more, does)
 
-pub goes_on : (net : Net) (first : ℕ) (bytes : List ℕ) (r : Reading) (rest : List ℕ) (used count : ℕ) (line left : List ℕ) (used_after count_after : ℕ) (t : Reading)
-    → IsLeft net first bytes r rest used count → IsTaken rest used count line left used_after count_after → line_does net r line ≡ Goes t
-    → IsLeft net first bytes t left used_after count_after
-goes_on net first bytes r rest used count line left used_after count_after t h taken does =
-    let said = turn net first bytes r rest used count line left used_after count_after (Goes t) h taken does in
-    let cut = length-drop taken.size rest in
-    let same = ap length taken.drops in
-    let fits = taken.first.fits in
-    record { said = said; room = omega arith }
-
 pub ends : (net : Net) (first : ℕ) (bytes : List ℕ) (r : Reading) (rest : List ℕ) (used count : ℕ) (line left : List ℕ) (used_after count_after : ℕ) (cs : List Command)
     → IsLeft net first bytes r rest used count → IsTaken rest used count line left used_after count_after → line_does net r line ≡ Ends cs
     → script_of net first bytes ≡ Ok (record { script = cs; used = used_after; lines = count_after })
 ends net first bytes r rest used count line left used_after count_after cs h taken does =
     turn net first bytes r rest used count line left used_after count_after (Ends cs) h taken does
-
-pub fails : (net : Net) (first : ℕ) (bytes : List ℕ) (r : Reading) (rest : List ℕ) (used count : ℕ) (line left : List ℕ) (used_after count_after : ℕ) (c : TextCause) (number : ℕ)
-    → IsLeft net first bytes r rest used count → IsTaken rest used count line left used_after count_after → line_does net r line ≡ Fails c → number ≡ first + count
-    → script_of net first bytes ≡ Err (At number c)
-fails net first bytes r rest used count line left used_after count_after c number h taken does at =
-    turn net first bytes r rest used count line left used_after count_after (Fails c) h taken does ∙ ap (λ n. Err (At n c)) (sym at)

@@ -1,34 +1,26 @@
 -- What a line asks for is possible in the network: its points are there, and its arc may be added.
-use Rattle.std.proofs.Common.{◌≡◌, ◌≢◌, ℕ, ◌+◌, ◌<◌, ◌≤◌, ◌==◌, ◌||◌, ◌&&◌, ℤ, pos, neg_ℤ, ◌≤ℤ◌, Bool, true, false, not, cond, List, [], ◌∷◌, ◌++◌, length, nat_le, int_lt, is_some, Option, Some, None, Result, Ok, Err, IfOk, IfSome, refl, sym, ap, subst, ◌∙◌, arith, if◌then◌else◌}
-use Rattle.std.specs.List.{AllByRecursion, position}
+use Rattle.std.proofs.Common.{◌≡◌, ◌≢◌, ℕ, ◌+◌, ◌<◌, ◌==◌, ℤ, pos, neg_ℤ, ◌≤ℤ◌, Bool, true, false, cond, List, [], ◌∷◌, length, Option, Some, None, Result, Ok, Err, IfOk, IfSome, refl, arith}
+use Rattle.std.specs.List.{position}
 use Rattle.std.specs.Option.{option_map}
 use Rattle.std.specs.Str.{bytes_eq}
 use Rattle.std.proofs.lemmas.Bool.Decides.{nat_tests}
 use Rattle.std.proofs.lemmas.Int.{ints}
 use Rattle.std.proofs.lemmas.List.{length-map}
 use Rattle.std.proofs.lemmas.List.Quantifiers.{position-Some}
-use Rattle.stn_model.specs.declared.ids.Constraint.{Constraint}
 use Rattle.stn_model.specs.declared.ids.PointId.{PointId}
 use Rattle.stn_model.specs.Net.{Net, find_point, point_count, point_names}
 use Rattle.stn_model.specs.Valid.{IsArcWithin}
 use Rattle.net_text.specs.declared.cause.TextCause.{TextCause}
 use Rattle.net_text.specs.declared.cause.TextCause.TheVariants as cause
-use Rattle.net_text.specs.declared.cause.TextError.{TextError}
 use Rattle.net_text.specs.Fields.{fields}
-use Rattle.net_text.specs.Lines.{Sized, lines, is_skipped, is_text}
+use Rattle.net_text.specs.Lines.{is_skipped, is_text}
 use Rattle.net_text.specs.Networks.{is_beyond}
-use Rattle.net_text.specs.Numbers.{number_of}
-use Rattle.script_text.specs.declared.command.Command.{Command}
-use Rattle.script_text.specs.declared.command.Command.TheVariants as command
 use Rattle.script_text.specs.declared.line.Line.{Line}
 use Rattle.script_text.specs.declared.line.Line.TheVariants as line
-use Rattle.script_text.specs.declared.read.ScriptRead.{ScriptRead}
 use Rattle.script_text.specs.declared.words.Word.{Word}
 use Rattle.script_text.specs.declared.words.Word.TheVariants as word
 use Rattle.script_text.specs.Words.{word_of}
 use Rattle.script_text.specs.Lines.{and_then, number_in, point_in, arc_between, arc_in, alone, prove_between, prove_line, choose_at, choose_line, arc_line, tighten_line, batch_arc_line, line_outside, line_inside, line_by_word, line_of, line_in}
-use Rattle.script_text.specs.Scripts.{Reading, Step, IsCommandOf, IsScriptOf, arcs_of, arcs_in, may_stand, decoupled_by, stand_in_order, beginning, with_command, unless, is_full, add_decoupled, tighten, decouple, begin_batch, add_to_batch, add_arc, close_batch, close, does, does_what, line_does, conclude, read_from, script_of}
-use Rattle.script_text.specs.Scripts.Step.{Goes, Ends, Fails}
 
 and_then_is : {A B : Type 0} (P : A → Type 0) (Q : B → Type 0) (x : Result A TextCause) (next : A → Result B TextCause) → IfOk x P → ((a : A) → P a → IfOk (next a) Q) → IfOk (and_then x next) Q
 and_then_is P Q (Ok a) next h k = k a h

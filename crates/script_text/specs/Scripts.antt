@@ -1,5 +1,5 @@
 -- Scripts: how far a script has come, what its next line does, and what a whole text says.
-use Rattle.std.specs.Prelude.{ℕ, ℤ, ◌+◌, ◌≡◌, ◌≢◌, ◌<◌, ◌≤◌, Bool, true, false, not, ◌&&◌, nat_le, List, [], ◌∷◌, ◌++◌, length, is_some, Option, Some, None, Result, Ok, Err, if◌then◌else◌}
+use Rattle.std.specs.Prelude.{ℕ, ◌+◌, ◌≡◌, ◌≢◌, ◌<◌, ◌≤◌, Bool, true, false, not, ◌&&◌, nat_le, List, [], ◌∷◌, ◌++◌, length, is_some, Option, Some, None, Result, Ok, Err, if◌then◌else◌}
 use Rattle.std.specs.Option.{option_map}
 use Rattle.std.specs.List.{AllByRecursion}
 use Rattle.stn_model.specs.declared.ids.Constraint.{Constraint}
@@ -143,20 +143,20 @@ Takes next.Ends r step = step ≡ Ends r.commands
 Takes (next.Fails c) r step = step ≡ Fails c
 
 -- how many arcs a command adds
-abbrev pub arcs_of : Command → ℕ
-arcs_of command.Bounds = 0
-arcs_of command.Windows = 0
-arcs_of (command.Prove from to) = 0
-arcs_of (command.Tighten arc) = 1
-arcs_of (command.Batch arcs) = length arcs
-arcs_of command.Decouple = 0
-arcs_of (command.Choose point time) = 0
-arcs_of command.Schedule = 0
+abbrev pub command_arcs : Command → ℕ
+command_arcs command.Bounds = 0
+command_arcs command.Windows = 0
+command_arcs (command.Prove from to) = 0
+command_arcs (command.Tighten arc) = 1
+command_arcs (command.Batch arcs) = length arcs
+command_arcs command.Decouple = 0
+command_arcs (command.Choose point time) = 0
+command_arcs command.Schedule = 0
 
 -- how many arcs commands add together
-abbrev pub arcs_in : List Command → ℕ
-arcs_in [] = 0
-arcs_in (c ∷ cs) = arcs_of c + arcs_in cs
+abbrev pub script_arcs : List Command → ℕ
+script_arcs [] = 0
+script_arcs (c ∷ cs) = command_arcs c + script_arcs cs
 
 -- the points of a command are in range and differ, that of a `choose` is not z, and the arcs are arcs that the network may have
 abbrev pub IsCommandOf : Net → Command → Type 0
@@ -199,5 +199,5 @@ stand_in_order decoupled (c ∷ cs) = may_stand decoupled c && stand_in_order (d
 -- what is true of the commands of every script that is read for a network
 pub record IsScriptOf (net : Net) (cs : List Command) : Type 0 where
   pub commands : AllByRecursion (IsCommandOf net) cs
-  pub few_arcs : length net.given + arcs_in cs ≤ 65536
+  pub few_arcs : length net.given + script_arcs cs ≤ 65536
   pub order : stand_in_order false cs ≡ true

@@ -2,22 +2,22 @@
 use crate::batch::Batch;
 use stn_model::{Constraint, PointId};
 
-/// One command of a script.
+/// One command of a script. Bounds and times are in the network's unit of time.
 #[derive(Drop)]
 pub enum Command {
     /// The least bounds of all joined pairs.
     Bounds,
     /// The least windows of all points.
     Windows,
-    /// One least bound with its walk and schedule; the points differ.
+    /// One least bound with its walk and schedule. The points differ.
     Prove { from: PointId, to: PointId },
     /// A tightening by one arc.
     Tighten { arc: Constraint },
-    /// A tightening by several arcs together.
+    /// A tightening by several arcs together, of which there is at least one.
     Batch { arcs: Batch },
     /// The decoupling of the agents.
     Decouple,
-    /// A time for a point other than the reference point.
+    /// A time for a point other than the reference point. It has at most 18 digits.
     Choose { point: PointId, time: i128 },
     /// The whole schedule.
     Schedule,

@@ -4,10 +4,10 @@ ghost use Rattle.net_text.specs.Networks.{is_beyond};
 ghost use Rattle.script_text.specs.Lines.{number_in, point_in, arc_between, arc_in, alone, prove_between, prove_line, choose_at, choose_line, arc_line, tighten_line, batch_arc_line, line_outside, line_inside, line_by_word, line_of};
 
 use crate::line::Line;
-use crate::words::{word_of, Word};
-use net_text::numbers::number_of;
+use crate::words::{Word, word_of};
 use net_text::TextCause;
-use stn_model::{Constraint, Network, PointId, GREATEST_BOUND};
+use net_text::numbers::number_of;
+use stn_model::{Constraint, GREATEST_BOUND, Network, PointId};
 
 /// The number of a field.
 fn number_in(field: &[u8]) -> Result<i64, TextCause>

@@ -4,11 +4,14 @@
 pub mod batch;
 pub mod command;
 mod grammar;
+pub mod laws;
 mod line;
 pub mod read;
 mod stage;
+#[cfg(test)]
+mod tests;
 mod words;
 
 pub use batch::Batch;
 pub use command::Command;
-pub use read::{read_script, Script, ScriptRead};
+pub use read::{Script, ScriptRead, read_script};

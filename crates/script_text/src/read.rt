@@ -8,7 +8,7 @@ use crate::grammar::line_of;
 use crate::line::Line;
 use crate::stage::{Next, Stage};
 use net_text::fields::fields_of;
-use net_text::lines::{is_skipped, is_text, Lines};
+use net_text::lines::{Lines, is_skipped, is_text};
 use net_text::{TextCause, TextError};
 use std::alloc::Global;
 use std::marker::Model;

@@ -8,7 +8,7 @@ use crate::command::Command;
 use crate::line::Line;
 use net_text::TextCause;
 use std::alloc::Global;
-use stn_model::{Constraint, OutOfMemory, MOST_ARCS};
+use stn_model::{Constraint, MOST_ARCS, OutOfMemory};
 
 /// How far a script has come.
 #[derive(Drop)]

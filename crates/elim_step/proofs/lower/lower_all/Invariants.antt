@@ -1,6 +1,6 @@
-use Rattle.std.specs.Prelude.{◌≡◌, ℕ, ◌+◌, ◌*◌, ◌-◌, ◌≤◌, ◌&&◌, nat_lt, length}
+use Rattle.std.specs.Prelude.{◌≡◌, ℕ, ◌+◌, ◌*◌, ◌-◌, ◌≤◌, ◌&&◌, nat_lt}
 use Rattle.elim_step.specs.Eliminates.{is_met, count_below}
-use Rattle.elim_step.specs.Blocks.{is_in, items_of, IsBlock}
+use Rattle.elim_step.specs.Blocks.{items_of, IsBlock}
 use Rattle.elim_step.specs.Regions.{region_after}
 use Rattle.elim_step.proofs.lower.lower_all.Given as goal
 

@@ -1,9 +1,9 @@
-use Rattle.std.proofs.Common.{◌≡◌, ℕ, Bool, false, ◌&&◌, ap, sym, ◌∙◌, arith, rules, take, get_or, refl, ◌+◌}
+use Rattle.std.proofs.Common.{◌≡◌, ℕ, Bool, false, ◌&&◌, ap, ◌∙◌, arith, rules, take, get_or, ◌+◌}
 use Rattle.std.specs.Prelude.{◌==◌}
 use Rattle.std.proofs.lemmas.Bool.Decides.{nat_tests}
 use Rattle.elim_step.specs.Blocks.{is_in}
-use Rattle.elim_step.proofs.Lists.{is_in-at, is_in-take, is_in-apart}
-use Rattle.elim_step.proofs.Regions.{region-join, and-false, and-or-right, and-or-left, front-more}
+use Rattle.elim_step.proofs.Lists.{is_in-at, is_in-take}
+use Rattle.elim_step.proofs.Regions.{region-join, and-false, and-or-right, front-more}
 use Rattle.elim_step.proofs.lower.lower_row.Goals as goal
 
 pub lower_pair-requires-clause-within : goal.lower_pair-requires-clause-within

@@ -1,4 +1,4 @@
-use Rattle.std.specs.Prelude.{◌≡◌, ℕ, ◌+◌, ◌*◌, ◌&&◌, ◌==◌, take, length}
+use Rattle.std.specs.Prelude.{◌≡◌, ℕ, ◌+◌, ◌&&◌, ◌==◌, take}
 use Rattle.elim_step.specs.Blocks.{is_in}
 use Rattle.elim_step.specs.Regions.{region_after}
 use Rattle.elim_step.proofs.lower.lower_row.Given as goal

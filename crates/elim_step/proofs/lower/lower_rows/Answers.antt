@@ -1,11 +1,9 @@
-use Rattle.std.proofs.Common.{◌≡◌, ◌≢◌, ℕ, Bool, true, false, ◌&&◌, ap, sym, ◌∙◌, arith, rules, refl, ◌+◌, ◌*◌, ◌≤◌, ◌<◌, length, Option, None, subst}
-use Rattle.std.specs.Prelude.{nat_lt, IfSome}
-use Rattle.dist_rows.specs.declared.cell.Cell.{Cell}
-use Rattle.dist_rows.specs.Cells.{IsLight}
-use Rattle.elim_step.specs.Eliminates.{is_met, count_below}
-use Rattle.elim_step.specs.Blocks.{is_in, items_of, IsBlock}
-use Rattle.elim_step.proofs.Blocks.{met-self, met-within, block-away, block-member, block-forward, block-back, block-cases, met-same}
-use Rattle.elim_step.proofs.Regions.{region-join, region-same, kept-first, kept-second, and-false, and-or-right, and-or-left, block-joined, all-before, none-before, row-away, column-away}
+use Rattle.std.proofs.Common.{◌≡◌, ℕ, Bool, false, ◌&&◌, ap, ◌∙◌, arith, refl, length, None}
+use Rattle.std.specs.Prelude.{nat_lt}
+use Rattle.elim_step.specs.Eliminates.{is_met}
+use Rattle.elim_step.specs.Blocks.{is_in, items_of}
+use Rattle.elim_step.proofs.Blocks.{met-self, met-within, block-away, block-back}
+use Rattle.elim_step.proofs.Regions.{region-join, region-same, kept-first, kept-second, and-or-right, block-joined, all-before, row-away}
 use Rattle.elim_step.proofs.Whole.{none-from}
 use Rattle.elim_step.proofs.lower.lower_rows.Goals as goal
 

@@ -1,5 +1,4 @@
-use Rattle.std.proofs.Common.{◌≡◌, ℕ, ◌<◌, ◌≤◌, true, false, arith, get_or, rules, length, ◌+◌, ◌∙◌}
-use Rattle.dist_rows.specs.Cells.{are_neighbours}
+use Rattle.std.proofs.Common.{◌≡◌, false, arith, get_or, ◌∙◌}
 use Rattle.elim_step.specs.Eliminates.{is_met}
 use Rattle.elim_step.specs.Blocks.{items_of}
 use Rattle.elim_step.proofs.Blocks.{block-more, block-longer, met-false, met-here}

@@ -1,6 +1,6 @@
 use Rattle.std.specs.Prelude.{◌≡◌, ◌≢◌, ℕ, ◌-◌, ◌<◌, ◌≤◌, true}
 use Rattle.elim_step.specs.Eliminates.{is_met}
-use Rattle.elim_step.specs.Blocks.{is_in, items_of, IsBlock}
+use Rattle.elim_step.specs.Blocks.{items_of, IsBlock}
 use Rattle.elim_step.proofs.room.make_rooms.Given as goal
 
 abbrev pub invariant-walk : goal.invariant-walk

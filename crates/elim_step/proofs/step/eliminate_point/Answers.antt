@@ -1,7 +1,6 @@
 use Rattle.std.proofs.Common.{◌≡◌, ◌∙◌, None, refl, ◌&&◌}
 use Rattle.elim_step.specs.Eliminates.{is_met}
 use Rattle.elim_step.specs.Regions.{region_after}
-use Rattle.elim_step.proofs.Blocks.{met-same}
 use Rattle.elim_step.proofs.Whole.{whole, none-from}
 use Rattle.elim_step.proofs.step.eliminate_point.Goals as goal
 

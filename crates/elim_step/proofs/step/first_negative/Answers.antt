@@ -1,7 +1,5 @@
-use Rattle.std.proofs.Common.{◌≡◌, ℕ, ◌<◌, ◌≤◌, true, false, arith, get_or, rules, length, ◌+◌, sym, ◌∙◌}
-use Rattle.std.specs.Prelude.{if◌then◌else◌}
-use Rattle.dist_rows.specs.Cells.{are_neighbours}
-use Rattle.elim_step.specs.Eliminates.{is_met, is_below, count_below}
+use Rattle.std.proofs.Common.{◌≡◌, ◌≤◌, false, arith, get_or, ◌+◌, sym, ◌∙◌}
+use Rattle.elim_step.specs.Eliminates.{is_met}
 use Rattle.elim_step.proofs.Blocks.{met-false, met-here, below-more, count_below-gap, count-step, count-le}
 use Rattle.elim_step.proofs.step.first_negative.Goals as goal
 

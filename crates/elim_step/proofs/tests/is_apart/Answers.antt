@@ -1,4 +1,4 @@
-use Rattle.std.proofs.Common.{◌≡◌, rules, None, get_or}
+use Rattle.std.proofs.Common.{◌≡◌, rules, None}
 use Rattle.elim_step.proofs.Lists.{is_in-at, push-cases}
 use Rattle.elim_step.proofs.tests.is_apart.Goals as goal
 

@@ -1,6 +1,6 @@
 use Rattle.std.proofs.Common.{◌≡◌, ◌+◌, ◌*◌, ℕ, ap, ◌∙◌, refl, length, arith}
 use Rattle.net_gen.specs.Draws.{DrawState}
-use Rattle.net_gen.specs.Generated.{point_total, draws_before, chain_at}
+use Rattle.net_gen.specs.Generated.{point_total, chain_at}
 use Rattle.net_gen.proofs.Places.{length-given, given_more, gap_total_small}
 use Rattle.net_gen.proofs.bounds.add_chains.Goals as goal
 

@@ -1,6 +1,6 @@
 use Rattle.std.proofs.Common.{◌≡◌, ◌+◌, ◌*◌, ◌++◌}
 use Rattle.std.specs.List.{flat_map, range_with_len}
-use Rattle.net_gen.specs.Generated.{point_total, draws_before, chain_at}
+use Rattle.net_gen.specs.Generated.{point_total, chain_at}
 use Rattle.net_gen.proofs.bounds.add_chains.Given as goal
 
 abbrev pub invariant-loop-gap : goal.invariant-loop-gap

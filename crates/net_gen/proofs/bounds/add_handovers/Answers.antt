@@ -1,6 +1,6 @@
-use Rattle.std.proofs.Common.{◌≡◌, ◌+◌, ◌*◌, ℕ, ap, ◌∙◌, refl, length, arith}
+use Rattle.std.proofs.Common.{◌≡◌, ◌+◌, ℕ, ap, ◌∙◌, refl, arith}
 use Rattle.net_gen.specs.Draws.{DrawState}
-use Rattle.net_gen.specs.Generated.{point_total, draws_before, handover_at}
+use Rattle.net_gen.specs.Generated.{draws_before, handover_at}
 use Rattle.net_gen.proofs.Places.{length-given, given_more, gap_total_small}
 use Rattle.net_gen.proofs.bounds.add_handovers.Goals as goal
 

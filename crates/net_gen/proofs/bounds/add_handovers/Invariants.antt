@@ -1,6 +1,6 @@
-use Rattle.std.proofs.Common.{◌≡◌, ◌+◌, ◌*◌, ◌++◌}
+use Rattle.std.proofs.Common.{◌≡◌, ◌++◌}
 use Rattle.std.specs.List.{flat_map, range_with_len}
-use Rattle.net_gen.specs.Generated.{point_total, draws_before, handover_at}
+use Rattle.net_gen.specs.Generated.{draws_before, handover_at}
 use Rattle.net_gen.proofs.bounds.add_handovers.Given as goal
 
 abbrev pub invariant-loop-handover : goal.invariant-loop-handover

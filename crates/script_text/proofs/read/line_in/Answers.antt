@@ -1,5 +1,5 @@
 -- At most five fields are looked at.
-use Rattle.std.proofs.Common.{◌≡◌, true, false, ap, sym, ◌∙◌, map, rules}
+use Rattle.std.proofs.Common.{◌≡◌, true, false, ap, ◌∙◌, map}
 use Rattle.net_text.specs.Lines.{is_skipped, is_text}
 use Rattle.script_text.proofs.Takes.{line_in_taken}
 use Rattle.script_text.proofs.read.line_in.Goals as goal

@@ -1,5 +1,5 @@
 -- What the text says is possible in the network.
-use Rattle.std.proofs.Common.{◌≡◌, ℕ, ◌≤◌, length, subst, arith}
+use Rattle.std.proofs.Common.{◌≡◌, ◌≤◌, length, arith}
 use Rattle.script_text.specs.Scripts.{reading_of, line_does}
 use Rattle.script_text.specs.Scripts.Step.{Ends}
 use Rattle.script_text.proofs.Turns.{ends}

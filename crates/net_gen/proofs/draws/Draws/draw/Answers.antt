@@ -1,4 +1,4 @@
-use Rattle.std.proofs.Common.{◌+◌, ◌*◌, ◌%◌, ℕ, ap, sym, ◌∙◌, arith}
+use Rattle.std.proofs.Common.{◌*◌, ◌%◌, ℕ, ap, ◌∙◌, arith}
 use Rattle.net_gen.proofs.Drawing.{value_after-more}
 use Rattle.net_gen.proofs.draws.Draws.draw.Goals as goal
 
