@@ -1,4 +1,5 @@
 mod LawLemmas
 mod MeaningLemmas
+mod QuietLemmas
 mod ReportLemmas
 mod WordLemmas

@@ -1,16 +1,11 @@
 -- What a job that reads means to answer, from what its reading and its answer ensure.
-use Rattle.std.proofs.Common.{◌≡◌, ℕ, List, Option, Result, Ok, Err, refl}
+use Rattle.std.proofs.Common.{◌≡◌, ℕ, List, Option, refl}
 use Rattle.stn_io.specs.Causes.{Rose}
 use Rattle.stn_io.specs.Bytes.{Loses}
 use Rattle.stn_io.specs.declared.whole.ReadRefusal.{ReadRefusal}
 use Rattle.stn_io.specs.declared.whole.ReadRefusal.TheVariants as refusal
-use Rattle.net_text.specs.declared.cause.TextError.{TextError}
-use Rattle.net_text.specs.declared.cause.TextError.TheVariants as refused
-use Rattle.net_text.specs.declared.read.NetRead.{NetRead}
-use Rattle.net_text.specs.Networks.{text_of}
 use Rattle.mastn.specs.declared.status.Status.{Status}
 use Rattle.mastn.specs.declared.status.Status.TheVariants.{Done, Inconsistent, WordsBad, NetBad, ScriptBad, ReadFault, WriteFault, OutOfMemory, InputTooLong, NotProved, TooLargeToCertify}
-use Rattle.mastn.specs.Checks.{SaysRead, CheckSays}
 use Rattle.mastn.specs.Reports.{refusal_line}
 use Rattle.mastn.specs.Runs.{Means, ReadsWhole, refusal_status, refusal_word}
 
@@ -22,33 +17,23 @@ means_refused says old new before now refusal.ReadFault fault long = (fault refl
 means_refused says old new before now refusal.TooLong fault long = (long refl, refl)
 means_refused says old new before now refusal.OutOfMemory fault long = refl
 
--- `check` says none of the answers that its reading gives
-not_fault : (t : Result NetRead TextError) (text : List ℕ) → SaysRead t ReadFault text → ⊥
-not_fault (Ok r) text h = h
-not_fault (Err (refused.At n c)) text h = cc
-not_fault (Err refused.OutOfMemory) text h = h
-
-not_long : (t : Result NetRead TextError) (text : List ℕ) → SaysRead t InputTooLong text → ⊥
-not_long (Ok r) text h = h
-not_long (Err (refused.At n c)) text h = cc
-not_long (Err refused.OutOfMemory) text h = h
-
-not_memory : (t : Result NetRead TextError) (text : List ℕ) → SaysRead t OutOfMemory text → ⊥
-not_memory (Ok r) text h = h
-not_memory (Err (refused.At n c)) text h = cc
-not_memory (Err refused.OutOfMemory) text h = h
+-- a job that says none of the answers of its reading
+pub record IsQuiet (says : List ℕ → Status → List ℕ → Type 0) : Type 0 where
+  pub fault : (bytes text : List ℕ) → says bytes ReadFault text → ⊥
+  pub long : (bytes text : List ℕ) → says bytes InputTooLong text → ⊥
+  pub memory : (bytes text : List ℕ) → says bytes OutOfMemory text → ⊥
 
 -- an input that was read whole
-pub means_read : (old new : Option (List ℕ)) (before now : ℕ) (bytes : List ℕ) → ReadsWhole old new bytes
-    → (status : Status) (text : List ℕ) → CheckSays bytes status text → Means CheckSays old new before now status text
-means_read old new before now bytes whole ReadFault text says = absurd (not_fault (text_of bytes) text says)
-means_read old new before now bytes whole InputTooLong text says = absurd (not_long (text_of bytes) text says)
-means_read old new before now bytes whole OutOfMemory text says = absurd (not_memory (text_of bytes) text says)
-means_read old new before now bytes whole Done text says = (bytes, whole, says)
-means_read old new before now bytes whole Inconsistent text says = (bytes, whole, says)
-means_read old new before now bytes whole WordsBad text says = (bytes, whole, says)
-means_read old new before now bytes whole NetBad text says = (bytes, whole, says)
-means_read old new before now bytes whole ScriptBad text says = (bytes, whole, says)
-means_read old new before now bytes whole WriteFault text says = (bytes, whole, says)
-means_read old new before now bytes whole NotProved text says = (bytes, whole, says)
-means_read old new before now bytes whole TooLargeToCertify text says = (bytes, whole, says)
+pub means_read : (says : List ℕ → Status → List ℕ → Type 0) → IsQuiet says → (old new : Option (List ℕ)) (before now : ℕ) (bytes : List ℕ) → ReadsWhole old new bytes
+    → (status : Status) (text : List ℕ) → says bytes status text → Means says old new before now status text
+means_read says quiet old new before now bytes whole ReadFault text said = absurd (quiet.fault bytes text said)
+means_read says quiet old new before now bytes whole InputTooLong text said = absurd (quiet.long bytes text said)
+means_read says quiet old new before now bytes whole OutOfMemory text said = absurd (quiet.memory bytes text said)
+means_read says quiet old new before now bytes whole Done text said = (bytes, whole, said)
+means_read says quiet old new before now bytes whole Inconsistent text said = (bytes, whole, said)
+means_read says quiet old new before now bytes whole WordsBad text said = (bytes, whole, said)
+means_read says quiet old new before now bytes whole NetBad text said = (bytes, whole, said)
+means_read says quiet old new before now bytes whole ScriptBad text said = (bytes, whole, said)
+means_read says quiet old new before now bytes whole WriteFault text said = (bytes, whole, said)
+means_read says quiet old new before now bytes whole NotProved text said = (bytes, whole, said)
+means_read says quiet old new before now bytes whole TooLargeToCertify text said = (bytes, whole, said)

@@ -3,7 +3,7 @@ use Rattle.std.specs.Prelude.{ℕ, ◌≤◌, ℤ, Bool, pos, List, [], ◌∷�
 use Rattle.std.specs.Str.{bytes_eq}
 use Rattle.net_text.specs.Numbers.{number_of}
 use Rattle.mastn.specs.declared.words.Job.{Job}
-use Rattle.mastn.specs.declared.words.Job.TheVariants.{Check, Gen}
+use Rattle.mastn.specs.declared.words.Job.TheVariants.{Check, Certify, Verify, Gen}
 
 -- the number of a word of 1 to 10 digits
 abbrev pub digits_of : List ℕ → Option ℤ
@@ -24,17 +24,23 @@ gen_of (Some number) (Some size) = gen_within number size
 -- the numbers of a job are in range
 abbrev pub IsWithinLimits : Job → Type 0
 IsWithinLimits Check = Unit {0}
+IsWithinLimits Certify = Unit {0}
+IsWithinLimits Verify = Unit {0}
 IsWithinLimits (Gen number size) = (number ≤ 2147483645) × (1 ≤ size) × (size ≤ 32)
 
 -- a lone word
 abbrev pub lone_job : List ℕ → Option Job
-lone_job word = if bytes_eq word (codes "check") then Some Check else None
+lone_job word =
+    if bytes_eq word (codes "check") then Some Check
+    else (if bytes_eq word (codes "certify") then Some Certify
+    else (if bytes_eq word (codes "verify") then Some Verify
+    else None))
 
 -- a word with a number and a size
 abbrev pub sized_job : List ℕ → List ℕ → List ℕ → Option Job
 sized_job word number size = if bytes_eq word (codes "gen") then gen_of (digits_of number) (digits_of size) else None
 
--- the table of words: none, or `check`; `gen NUMBER SIZE`
+-- the table of words: none, or `check`; `certify`; `verify`; `gen NUMBER SIZE`
 abbrev pub job_of : List (List ℕ) → Option Job
 job_of [] = Some Check
 job_of (word ∷ []) = lone_job word

@@ -5,3 +5,5 @@ pub mod Checks
 pub mod Runs
 pub mod Laws
 pub mod Gens
+pub mod Certifies
+pub mod Questions

@@ -42,3 +42,10 @@ cycle_part net walk =
 
 abbrev pub inconsistent_report : Net → List ℕ → List ℕ
 inconsistent_report net walk = line (codes "inconsistent") [] ++ cycle_part net walk
+
+-- a certificate that shows what it should
+abbrev pub verified_consistent : List ℕ
+verified_consistent = line (codes "verified") (codes "consistent" ∷ [])
+
+abbrev pub verified_inconsistent : List ℕ
+verified_inconsistent = line (codes "verified") (codes "inconsistent" ∷ [])

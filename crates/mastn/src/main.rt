@@ -1,9 +1,12 @@
 //! Decides simple temporal networks: the program.
 #![tactic(auto)]
 
+mod answer;
+mod certify;
 mod check;
 mod generate;
 mod laws;
+mod question;
 mod report;
 mod run;
 mod status;

@@ -5,6 +5,17 @@ use std::alloc::Global;
 use std::test::Fail;
 use stn_io::{MemSink, MemSource};
 
+const CERTIFICATE: &[u8] =
+    b"mastncert 1\nconsistent 2\nfrom 0\nto 1 10 0\nholds\nfrom 1\nto 0 0 1\nholds\nend\n";
+
+const CERTIFIED: &[u8] =
+    b"mastn 1\nhorizon 10\nagent alice early\npoint alice a\nend\nmastncert 1\nconsistent 2\nfrom 0\nto 1 10 0\nholds\nfrom 1\nto 0 0 1\nholds\nend\n";
+
+const CONFLICT: &[u8] = b"mastn 1\nhorizon 10\nagent x\npoint x a\npoint x b\nbound a b 5 3\nend\n";
+
+const REFUTED: &[u8] =
+    b"mastn 1\nhorizon 10\nagent x\npoint x a\npoint x b\nbound a b 5 3\nend\nmastncert 1\ninconsistent\ncycle 4 5\nend\n";
+
 const STORED: &[u8] = b"mastn 1\nhorizon 10\nagent alice early\npoint alice a\nend\n";
 
 /// Runs the job of these words on this input, with a source and a sink that give and take pieces and fail at the listed calls.
@@ -105,6 +116,49 @@ fn words_and_inputs_have_their_answers(rt: HostRuntime) -> Result<(), Fail> {
     ];
     for (words, input, status, text) in cases {
         let found = answer(rt.alloc(), words, input, (4096, &[]), (4096, &[]))?;
+        assert_eq!(rt; found.0, status);
+        assert_eq!(rt; found.1.as_slice(), text);
+    }
+    Ok(())
+}
+
+#[test]
+fn certificates_are_written_and_checked(rt: HostRuntime) -> Result<(), Fail> {
+    let certify: &[u8] = b"certify";
+    let verify: &[u8] = b"verify";
+    let cases: [(&[u8], &[u8], Status, &[u8]); 9] = [
+        (certify, STORED, Status::Done, CERTIFICATE),
+        (
+            certify,
+            CONFLICT,
+            Status::Inconsistent,
+            b"mastncert 1\ninconsistent\ncycle 4 5\nend\n",
+        ),
+        (certify, b"mastn 2\n", Status::NetBad, b"error 1 Version\n"),
+        (verify, CERTIFIED, Status::Done, b"verified consistent\n"),
+        (
+            verify,
+            REFUTED,
+            Status::Inconsistent,
+            b"verified inconsistent\n",
+        ),
+        (verify, STORED, Status::NotProved, b"error 6 NoEnd\n"),
+        (
+            verify,
+            b"mastn 1\nhorizon 10\nend\nmastncert 1\nconsistent 2\n",
+            Status::NotProved,
+            b"error 5 WrongValue 1 2\n",
+        ),
+        (
+            verify,
+            b"mastn 1\nhorizon 10\nend\nmastncert 1\nconsistent 1\nfrom 0\nto 0 0 0\n",
+            Status::NotProved,
+            b"error 7 AgainTo 0\n",
+        ),
+        (verify, b"", Status::NetBad, b"error 1 NoHeader\n"),
+    ];
+    for (word, input, status, text) in cases {
+        let found = answer(rt.alloc(), &[word], input, (4096, &[]), (4096, &[]))?;
         assert_eq!(rt; found.0, status);
         assert_eq!(rt; found.1.as_slice(), text);
     }

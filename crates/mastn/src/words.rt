@@ -9,6 +9,10 @@ use net_text::numbers::number_of;
 pub enum Job {
     /// No words, or `check`: read a network and decide it.
     Check,
+    /// `certify`: read a network and write a certificate of its verdict.
+    Certify,
+    /// `verify`: read a network and a certificate, and check this.
+    Verify,
     /// `gen NUMBER SIZE`: write the generated network of that number and size.
     Gen { number: u32, size: u32 },
 }
@@ -33,6 +37,12 @@ fn read_lone(word: &[u8]) -> Option<Job>
 {
     if word == b"check".as_slice() {
         return Some(Job::Check);
+    }
+    if word == b"certify".as_slice() {
+        return Some(Job::Certify);
+    }
+    if word == b"verify".as_slice() {
+        return Some(Job::Verify);
     }
     None
 }

@@ -1,0 +1,9 @@
+pub mod Decided
+pub mod Cycles
+pub mod Firsts
+pub mod Fields
+pub mod Sections
+pub mod Attained
+pub mod Lines
+pub mod Shown
+pub mod Turns

@@ -1,0 +1,6 @@
+pub mod Words
+pub mod Rows
+pub mod Cycles
+pub mod Certificates
+pub mod Claims
+pub mod Causes
