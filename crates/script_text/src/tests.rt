@@ -121,6 +121,7 @@ fn first_failures(rt: HostRuntime) -> Result<(), Fail> {
         ("tighten z a1 1099511627777\n", 14, TextCause::BoundRange),
         ("decouple\nchoose z 5\n", 15, TextCause::ReferencePoint),
     ] {
+        assert!(rt; text.len() < 100);
         let read = read_script(alloc, &net, text.as_bytes(), 14);
         assert_eq!(rt; read.err(), Some(TextError::At { line, cause }), "{text}");
     }
