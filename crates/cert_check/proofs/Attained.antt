@@ -22,11 +22,11 @@ abbrev pub HasWalk : List Constraint → ℕ → ℕ → ℤ → Type 0
 HasWalk arcs i p d = (w : List ℕ) × IsWalk arcs i p w × (weight arcs w ≡ d)
 
 -- the distances of a section
-pub record IsRow (net : Net) (i : ℕ) (row : Row) : Type 0 where
+pub record IsRow (net : Net) (i : ℕ) (distances : Row) : Type 0 where
   pub within : i < point_count net
-  pub one_each : length row ≡ point_count net
-  pub own : distance_to row i ≡ Some (pos 0)
-  pub walks : (p : ℕ) (d : ℤ) → distance_to row p ≡ Some d → HasWalk (arcs_of net) i p d
+  pub one_each : length distances ≡ point_count net
+  pub own : distance_to distances i ≡ Some (pos 0)
+  pub walks : (p : ℕ) (d : ℤ) → distance_to distances p ≡ Some d → HasWalk (arcs_of net) i p d
 
 abbrev pub value : Option ℤ → ℤ
 value None = pos 0
@@ -38,28 +38,28 @@ kept_bound (Some d) None b p q h = absurd (false≢true (sym q))
 kept_bound (Some d) (Some e) b p q h = no_less (d +ℤ b) e h
 
 -- a point with a distance is one of the row
-placed : (row : Row) (p : ℕ) (d : ℤ) → distance_to row p ≡ Some d → p < length row
-placed row p d is =
+placed : (distances : Row) (p : ℕ) (d : ℤ) → distance_to distances p ≡ Some d → p < length distances
+placed distances p d is =
     ⊎_elim
-    (λ (lt : p < length row). lt)
-    (λ (past : length row ≤ p). let none : distance_to row p ≡ None = get_or_past row p None past in absurd (some_none d (sym none ∙ is)))
-    (cases_lt p (length row))
+    (λ (lt : p < length distances). lt)
+    (λ (past : length distances ≤ p). let none : distance_to distances p ≡ None = get_or_past distances p None past in absurd (some_none d (sym none ∙ is)))
+    (cases_lt p (length distances))
   where
     some_none : (d : ℤ) → ◌≡◌ {A = Option ℤ} None (Some d) → ⊥
     some_none d e = cc
 
-module _ (net : Net) (valid : IsNetwork net) (i : ℕ) (row : Row) (h : IsRow net i row) (whole : position is_missing row ≡ None) (kept : position (is_broken row) (arcs_of net) ≡ None) where
+module _ (net : Net) (valid : IsNetwork net) (i : ℕ) (distances : Row) (h : IsRow net i distances) (whole : position is_missing distances ≡ None) (kept : position (is_broken distances) (arcs_of net) ≡ None) where
   abbrev times : List ℤ
-  times = map (λ x. value x -ℤ value (distance_to row 0)) row
+  times = map (λ x. value x -ℤ value (distance_to distances 0)) distances
 
-  time_of : (p : ℕ) → p < point_count net → time_at times p ≡ value (distance_to row p) -ℤ value (distance_to row 0)
+  time_of : (p : ℕ) → p < point_count net → time_at times p ≡ value (distance_to distances p) -ℤ value (distance_to distances 0)
   time_of p lt =
       let len = h.one_each in
-      let within : p < length row = omega arith in
-      get_or-map (λ x. value x -ℤ value (distance_to row 0)) row p None (pos 0) within
+      let within : p < length distances = omega arith in
+      get_or-map (λ x. value x -ℤ value (distance_to distances 0)) distances p None (pos 0) within
 
-  there : (p : ℕ) → p < point_count net → is_missing (distance_to row p) ≡ false
-  there p lt = let len = h.one_each in none_passes is_missing row None whole p (omega arith)
+  there : (p : ℕ) → p < point_count net → is_missing (distance_to distances p) ≡ false
+  there p lt = let len = h.one_each in none_passes is_missing distances None whole p (omega arith)
 
   keeps : KeepsArcs (arcs_of net) times
   keeps n lt =
@@ -67,15 +67,15 @@ module _ (net : Net) (valid : IsNetwork net) (i : ℕ) (row : Row) (h : IsRow ne
       let from = time_of (from_at (arcs_of net) n) a.starts in
       let to = time_of (to_at (arcs_of net) n) a.ends in
       let holds =
-      kept_bound (distance_to row (from_at (arcs_of net) n)) (distance_to row (to_at (arcs_of net) n)) (bound_at (arcs_of net) n)
+      kept_bound (distance_to distances (from_at (arcs_of net) n)) (distance_to distances (to_at (arcs_of net) n)) (bound_at (arcs_of net) n)
       (there (from_at (arcs_of net) n) a.starts) (there (to_at (arcs_of net) n) a.ends)
-      (none_passes (is_broken row) (arcs_of net) no_arc kept n lt)
+      (none_passes (is_broken distances) (arcs_of net) no_arc kept n lt)
       in
       omega (arith, ints)
 
   pub satisfied : Satisfies (point_count net) (arcs_of net) times
   satisfied = record {
-    one_each = length-map row (λ x. value x -ℤ value (distance_to row 0)) ∙ h.one_each;
+    one_each = length-map distances (λ x. value x -ℤ value (distance_to distances 0)) ∙ h.one_each;
     first = let zeroth = time_of 0 (omega arith) in omega (arith, ints);
     keeps = keeps;
   }
@@ -83,13 +83,13 @@ module _ (net : Net) (valid : IsNetwork net) (i : ℕ) (row : Row) (h : IsRow ne
   pub consistent : IsConsistent (point_count net) (arcs_of net)
   consistent = (times, satisfied)
 
-  pub attained : (p : ℕ) (d : ℤ) → distance_to row p ≡ Some d → IsLeastBound (point_count net) (arcs_of net) i p d
+  pub attained : (p : ℕ) (d : ℤ) → distance_to distances p ≡ Some d → IsLeastBound (point_count net) (arcs_of net) i p d
   attained p d is =
       let w = h.walks p d is in
       let len = h.one_each in
-      let in_row = placed row p d is in
+      let in_row = placed distances p d is in
       let there = time_of p (omega arith) in
       let here = time_of i h.within in
-      let far : value (distance_to row p) ≡ d = ap value is in
-      let own : value (distance_to row i) ≡ pos 0 = ap value h.own in
+      let far : value (distance_to distances p) ≡ d = ap value is in
+      let own : value (distance_to distances i) ≡ pos 0 = ap value h.own in
       record { walk = w.0; is_walk = w.1; weighs = w.2; times = times; satisfies = satisfied; attains = omega (arith, ints) }
