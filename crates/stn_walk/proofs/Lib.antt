@@ -10,3 +10,9 @@ pub mod Meets
 pub mod Cycles
 pub mod Magnitude
 pub mod ArcWalks
+pub mod Visits
+pub mod Eliminations
+pub mod Exits
+pub mod Finals
+pub mod LightWalks
+pub mod NewArcs

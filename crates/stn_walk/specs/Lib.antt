@@ -4,3 +4,4 @@ pub mod Trails
 pub mod Views
 pub mod ClosedParts
 pub mod Laws
+pub mod Eliminations
