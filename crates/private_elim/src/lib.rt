@@ -1,0 +1,6 @@
+//! An agent's own part of a network, and what is left of it for others once its private points are eliminated.
+#![tactic(auto)]
+
+pub mod local;
+
+pub use local::{Local, LocalArc};
