@@ -4,3 +4,5 @@ pub mod Regions
 pub mod Whole
 pub mod Revisits
 pub mod Finds
+pub mod Weights
+pub mod Sound

@@ -4,3 +4,4 @@ pub mod Regions
 pub mod Revisits
 pub mod Picks
 pub mod Summaries
+pub mod Eliminated
