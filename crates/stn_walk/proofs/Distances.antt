@@ -19,7 +19,7 @@ use Rattle.stn_model.proofs.Bridges.{arc_contained, numbers_of, IsArcWalk-from_w
 use Rattle.stn_model.proofs.WalkLemmas.{weight_bounds}
 use Rattle.stn_walk.specs.ClosedParts.{AreWithin}
 use Rattle.stn_walk.specs.Eliminations.{is_in, lesser, cell_of}
-use Rattle.stn_walk.specs.Distances.{IsLeastWalk, ReachesZero}
+use Rattle.stn_walk.specs.Distances.{HasEndsBelow, IsLeastWalk, ReachesZero}
 use Rattle.stn_walk.proofs.ArcWalks.{GoesOn-append, GoesOn-wider, arcs_weight-append, arcs_weight_bounds}
 use Rattle.stn_walk.proofs.Visits.{wider, at_point}
 use Rattle.stn_walk.proofs.Eliminations.{cell-least}
@@ -76,19 +76,23 @@ inner_from_walk arcs i j (a ∷ w) ne h = (h.1, h.2, h.3)
 abbrev pub distance : ℕ → List Constraint → ℕ → ℕ → Option ℤ
 distance points arcs i p = reach (cell_of arcs (range_with_len 0 points) i) i p
 
-module _ (points : ℕ) (arcs : List Constraint) (within : AreWithin points arcs) where
+-- arcs within the limits join points
+pub ends_below : (points : ℕ) (arcs : List Constraint) → AreWithin points arcs → HasEndsBelow points arcs
+ends_below points arcs within = λ a c.
+    let is : arc_at arcs c.0 ≡ a = get_or_default arcs c.0 no_arc a c.1 ∙ c.2 in (
+      subst (λ (x : Constraint). x.from.0 < points) is (within c.0 c.1).starts,
+      subst (λ (x : Constraint). x.to.0 < points) is (within c.0 c.1).ends,
+    )
+
+module _ (points : ℕ) (arcs : List Constraint) (below : HasEndsBelow points arcs) where
   -- every arc begins at one of the points
   starts_in : (a : Constraint) → Contains arcs a → is_in (range_with_len 0 points) a.from.0 ≡ true
-  starts_in a c =
-      let is : arc_at arcs c.0 ≡ a = get_or_default arcs c.0 no_arc a c.1 ∙ c.2 in
-      let low = (within c.0 c.1).starts in
-      let same : from_at arcs c.0 ≡ a.from.0 = ap (λ (x : Constraint). x.from.0) is in
-      is_in_range points 0 a.from.0 (omega arith) (omega arith)
+  starts_in a c = let low = (below a c).0 in is_in_range points 0 a.from.0 (omega arith) (omega arith)
 
-  -- the end of a walk that is not empty
-  pub ends_within : (i j : ℕ) (ns : List ℕ) → i < points → IsWalk arcs i j ns → j < points
-  ends_within i j [] lt w = let e : i ≡ j = w in omega arith
-  ends_within i j (n ∷ ns) lt w = ends_within (to_at arcs n) j ns (within n w.0).ends w.2
+  -- a walk from one of the points ends at one
+  pub walk_ends_below : (i j : ℕ) (ns : List ℕ) → i < points → IsWalk arcs i j ns → j < points
+  walk_ends_below i j [] lt w = let e : i ≡ j = w in omega arith
+  walk_ends_below i j (n ∷ ns) lt w = walk_ends_below (to_at arcs n) j ns (below (arc_at arcs n) (arc_contained arcs n w.0)).1 w.2
 
   module _ (none_below : NoNegative every arcs) where
     -- with all points eliminated the cells are the least weights of all walks
@@ -122,36 +126,36 @@ module _ (points : ℕ) (arcs : List Constraint) (within : AreWithin points arcs
         lower_more (arcs_weight (r.0 ++ arc_at arcs n ∷ [])) (x +ℤ bound_at arcs n) (distance points arcs i (to_at arcs n)) (omega (arith, ints))
         (distance_least i (to_at arcs n) (r.0 ++ arc_at arcs n ∷ []) longer)
 
--- the walks to the points from any point of the list: at each point the least of the distances
+-- at each point the least of its distances from the points of a list
 abbrev from_any : ℕ → List Constraint → List ℕ → ℕ → Option ℤ
 from_any points arcs [] p = None
 from_any points arcs (q ∷ qs) p = lesser (from_any points arcs qs p) (distance points arcs q p)
 
 -- the distances of a list of points are a potential together
-any_potential : (points : ℕ) (arcs : List Constraint) → AreWithin points arcs → NoNegative every arcs → (qs : List ℕ) → IsPotential arcs (from_any points arcs qs)
-any_potential points arcs within none_below [] = λ n lt x low. absurd low
-any_potential points arcs within none_below (q ∷ qs) =
-    potential_lesser arcs (from_any points arcs qs) (distance points arcs q) (any_potential points arcs within none_below qs) (distance_potential points arcs within none_below q)
+any_potential : (points : ℕ) (arcs : List Constraint) → HasEndsBelow points arcs → NoNegative every arcs → (qs : List ℕ) → IsPotential arcs (from_any points arcs qs)
+any_potential points arcs below none_below [] = λ n lt x low. absurd low
+any_potential points arcs below none_below (q ∷ qs) =
+    potential_lesser arcs (from_any points arcs qs) (distance points arcs q) (any_potential points arcs below none_below qs) (distance_potential points arcs below none_below q)
 
 -- each point of the list is reached from itself
-any_there : (points : ℕ) (arcs : List Constraint) → AreWithin points arcs → NoNegative every arcs → (n a p : ℕ) → a ≤ p → p < a + n
+any_there : (points : ℕ) (arcs : List Constraint) → HasEndsBelow points arcs → NoNegative every arcs → (n a p : ℕ) → a ≤ p → p < a + n
     → IsLower (pos 0) (from_any points arcs (range_with_len a n) p)
-any_there points arcs within none_below zero a p low high = absurd (omega arith)
-any_there points arcs within none_below (suc n) a p low high =
+any_there points arcs below none_below zero a p low high = absurd (omega arith)
+any_there points arcs below none_below (suc n) a p low high =
     let rest = from_any points arcs (range_with_len (a + 1) n) p in
     ⊎_elim
     (λ (e : p ≡ a). lower_right (pos 0) rest (distance points arcs a p)
-    (subst (λ (q : ℕ). IsLower (pos 0) (distance points arcs q p)) e (distance_to_itself points arcs within none_below p)))
-    (λ (ne : p ≢ a). lower_left (pos 0) rest (distance points arcs a p) (any_there points arcs within none_below n (a + 1) p (omega arith) (omega arith)))
+    (subst (λ (q : ℕ). IsLower (pos 0) (distance points arcs q p)) e (distance_to_itself points arcs below none_below p)))
+    (λ (ne : p ≢ a). lower_left (pos 0) rest (distance points arcs a p) (any_there points arcs below none_below n (a + 1) p (omega arith) (omega arith)))
     (cases_eq p a)
 
 -- where no closed walk is negative some schedule satisfies the arcs
-pub no_negative_consistent : (points : ℕ) (arcs : List Constraint) → AreWithin points arcs → NoNegative every arcs → IsConsistent points arcs
-no_negative_consistent points arcs within none_below =
+pub no_negative_consistent : (points : ℕ) (arcs : List Constraint) → HasEndsBelow points arcs → NoNegative every arcs → IsConsistent points arcs
+no_negative_consistent points arcs below none_below =
     let f : ℕ → Option ℤ = from_any points arcs (range_with_len 0 points) in (
       times_of points f,
-      potential_satisfies points arcs f within (any_potential points arcs within none_below (range_with_len 0 points))
-          (λ p lt. (pos 0, any_there points arcs within none_below points 0 p (omega arith) (omega arith))),
+      potential_satisfies points arcs f below (any_potential points arcs below none_below (range_with_len 0 points))
+          (λ p lt. (pos 0, any_there points arcs below none_below points 0 p (omega arith) (omega arith))),
     )
 
 -- and where a schedule satisfies them no closed walk is negative
@@ -181,12 +185,12 @@ least_of_arcs arcs i j b l v g =
     omega (arith, ints)
 
 -- where a walk goes from i to j and no closed walk is negative, one is least
-pub least_walk_there : (points : ℕ) (arcs : List Constraint) → AreWithin points arcs → NoNegative every arcs
+pub least_walk_there : (points : ℕ) (arcs : List Constraint) → HasEndsBelow points arcs → NoNegative every arcs
     → (i j : ℕ) (w : List Constraint) → IsArcWalk arcs i j w → (b : ℤ) × IsLeastWalk arcs i j b
-least_walk_there points arcs within none_below i j w g =
+least_walk_there points arcs below none_below i j w g =
     let d : Option ℤ = distance points arcs i j in
-    let r = distance_walk points arcs within none_below i j (value d) (lower_value (arcs_weight w) d (distance_least points arcs within none_below i j w g)) in
-    (value d, least_from_arcs arcs i j (value d) r.0 r.1 r.2 (λ v h. value_lower (arcs_weight v) d (distance_least points arcs within none_below i j v h)))
+    let r = distance_walk points arcs below none_below i j (value d) (lower_value (arcs_weight w) d (distance_least points arcs below none_below i j w g)) in
+    (value d, least_from_arcs arcs i j (value d) r.0 r.1 r.2 (λ v h. value_lower (arcs_weight v) d (distance_least points arcs below none_below i j v h)))
 
 -- a least bound is the weight of a least walk
 pub bound_least_walk : (points : ℕ) (arcs : List Constraint) (i j : ℕ) (b : ℤ) → IsLeastBound points arcs i j b → IsLeastWalk arcs i j b
@@ -199,7 +203,7 @@ bound_least_walk points arcs i j b l = record {
 
 -- where a schedule satisfies the arcs, one has j exactly a least weight after i: at each point the lesser of the distance from i and the time of the
 -- given schedule, moved so that j keeps the least weight
-module _ (points : ℕ) (arcs : List Constraint) (within : AreWithin points arcs) (times : List ℤ) (satisfies : Satisfies points arcs times) where
+module _ (points : ℕ) (arcs : List Constraint) (below : HasEndsBelow points arcs) (times : List ℤ) (satisfies : Satisfies points arcs times) where
   module _ (i j : ℕ) (b : ℤ) (l : IsLeastWalk arcs i j b) where
     -- no closed walk is negative
     none_below : NoNegative every arcs
@@ -224,10 +228,10 @@ module _ (points : ℕ) (arcs : List Constraint) (within : AreWithin points arcs
     -- from i to itself the distance is 0, and its time was moved to at least that
     at_start : value (lesser_time i) ≡ pos 0
     at_start =
-        value_is (pos 0) (lesser_time i) (lower_left (pos 0) (distance points arcs i i) (Some (moved i)) (distance_to_itself points arcs within none_below i))
+        value_is (pos 0) (lesser_time i) (lower_left (pos 0) (distance points arcs i i) (Some (moved i)) (distance_to_itself points arcs below none_below i))
         (λ x low. elim (lower_cases x (distance points arcs i i) (Some (moved i)) low) [
           | inl h ↦
-              (let r = distance_walk points arcs within none_below i i x h in
+              (let r = distance_walk points arcs below none_below i i x h in
               let bound = arcs_weight_bounds arcs times satisfies.keeps i i r.0 r.1 in
               let light = r.2 in
               omega (arith, ints))
@@ -241,7 +245,7 @@ module _ (points : ℕ) (arcs : List Constraint) (within : AreWithin points arcs
         (lower_right b (distance points arcs i j) (Some (moved j)) (let low : moved j ≤ℤ b = omega (arith, ints) in low))
         (λ x low. elim (lower_cases x (distance points arcs i j) (Some (moved j)) low) [
           | inl h ↦
-              (let r = distance_walk points arcs within none_below i j x h in
+              (let r = distance_walk points arcs below none_below i j x h in
               let least = least_of_arcs arcs i j b l r.0 r.1 in
               let light = r.2 in
               omega (arith, ints))
@@ -261,24 +265,24 @@ module _ (points : ℕ) (arcs : List Constraint) (within : AreWithin points arcs
           weighs = l.weighs;
           times = times_of points lesser_time;
           satisfies =
-              potential_satisfies points arcs lesser_time within
-              (potential_lesser arcs (distance points arcs i) (λ p. Some (moved p)) (distance_potential points arcs within none_below i)
+              potential_satisfies points arcs lesser_time below
+              (potential_lesser arcs (distance points arcs i) (λ p. Some (moved p)) (distance_potential points arcs below none_below i)
               (potential_times arcs times (b -ℤ time_at times j) satisfies.keeps))
               (λ p lt. (moved p, there p));
           attains = omega (arith, ints);
         }
 
 -- a least weight of walks is a least bound
-pub least_walk_bound : (points : ℕ) (arcs : List Constraint) → AreWithin points arcs → IsConsistent points arcs
+pub least_walk_bound : (points : ℕ) (arcs : List Constraint) → HasEndsBelow points arcs → IsConsistent points arcs
     → (i j : ℕ) (b : ℤ) → IsLeastWalk arcs i j b → IsLeastBound points arcs i j b
-least_walk_bound points arcs within s i j b l = of_walk l.walk l.is_walk l.weighs where
+least_walk_bound points arcs below s i j b l = of_walk l.walk l.is_walk l.weighs where
   of_walk : (ns : List ℕ) → IsWalk arcs i j ns → weight arcs ns ≡ b → IsLeastBound points arcs i j b
   of_walk [] w e =
       let same : time_at s.0 i ≡ time_at s.0 j = ap (time_at s.0) w in
       record { walk = []; is_walk = w; weighs = e; times = s.0; satisfies = s.1; attains = omega (arith, ints) }
   of_walk (n ∷ ns) w e =
-      let start : i < points = subst (λ (p : ℕ). p < points) w.1 (within n w.0).starts in
-      bound_between points arcs within s.0 s.1 i j b l start (ends_within points arcs within i j (n ∷ ns) start w)
+      let start : i < points = subst (λ (p : ℕ). p < points) w.1 (below (arc_at arcs n) (arc_contained arcs n w.0)).0 in
+      bound_between points arcs below s.0 s.1 i j b l start (walk_ends_below points arcs below i j (n ∷ ns) start w)
 
 -- the same of the walks between two different points that are lists of arcs
 pub inner_least_walk : (arcs : List Constraint) (i j : ℕ) (b : ℤ) → i ≢ j → IsInnerLeast every arcs i j (Some b) → IsLeastWalk arcs i j b
@@ -288,9 +292,9 @@ inner_least_walk arcs i j b ne least =
     (λ v h. least.1 v (inner_from_walk arcs i j v ne h))
 
 -- so the least weight of all walks is the least bound
-pub inner_least_bound : (points : ℕ) (arcs : List Constraint) → AreWithin points arcs → IsConsistent points arcs
+pub inner_least_bound : (points : ℕ) (arcs : List Constraint) → HasEndsBelow points arcs → IsConsistent points arcs
     → (i j : ℕ) (b : ℤ) → i ≢ j → IsInnerLeast every arcs i j (Some b) → IsLeastBound points arcs i j b
-inner_least_bound points arcs within s i j b ne least = least_walk_bound points arcs within s i j b (inner_least_walk arcs i j b ne least)
+inner_least_bound points arcs below s i j b ne least = least_walk_bound points arcs below s i j b (inner_least_walk arcs i j b ne least)
 
 -- and from numbers to lists of arcs
 pub least_walk_inner : (arcs : List Constraint) (i j : ℕ) (b : ℤ) → i ≢ j → IsLeastWalk arcs i j b → IsInnerLeast every arcs i j (Some b)
@@ -318,12 +322,12 @@ reaches_wider points arcs more has reaches = λ p lt.
     ((forth.0, GoesOn-wider every arcs more has 0 p forth.0 forth.1), (back.0, GoesOn-wider every arcs more has p 0 back.0 back.1))
 
 -- so there is a least bound between any two
-pub least_bound_there : (points : ℕ) (arcs : List Constraint) → AreWithin points arcs → ReachesZero points arcs → IsConsistent points arcs
+pub least_bound_there : (points : ℕ) (arcs : List Constraint) → HasEndsBelow points arcs → ReachesZero points arcs → IsConsistent points arcs
     → (i j : ℕ) → i < points → j < points → (b : ℤ) × IsLeastBound points arcs i j b
-least_bound_there points arcs within reaches s i j start end =
+least_bound_there points arcs below reaches s i j start end =
     let w = walk_there points arcs reaches i j start end in
-    let l = least_walk_there points arcs within (consistent_no_negative points arcs s every) i j w.0 w.1 in
-    (l.0, least_walk_bound points arcs within s i j l.0 l.1)
+    let l = least_walk_there points arcs below (consistent_no_negative points arcs s every) i j w.0 w.1 in
+    (l.0, least_walk_bound points arcs below s i j l.0 l.1)
 
 -- each point of a network has an arc from z and one to it
 pub network_reaches : (net : Net) → ReachesZero (point_count net) (arcs_of net)
@@ -340,7 +344,11 @@ network_reaches net = λ p lt. ⊎_elim
     ))
     (cases_eq p 0)
 
+-- its arcs join its points
+pub network_ends : (net : Net) → IsNetwork net → HasEndsBelow (point_count net) (arcs_of net)
+network_ends net valid = ends_below (point_count net) (arcs_of net) (arcs_within net valid)
+
 -- a consistent network has a least bound between any two of its points
 pub network_bound_there : (net : Net) → IsNetwork net → IsConsistent (point_count net) (arcs_of net)
     → (i j : ℕ) → i < point_count net → j < point_count net → (b : ℤ) × IsLeastBound (point_count net) (arcs_of net) i j b
-network_bound_there net valid = least_bound_there (point_count net) (arcs_of net) (arcs_within net valid) (network_reaches net)
+network_bound_there net valid = least_bound_there (point_count net) (arcs_of net) (network_ends net valid) (network_reaches net)

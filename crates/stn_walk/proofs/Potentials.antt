@@ -5,10 +5,11 @@ use Rattle.std.specs.List.{range_with_len}
 use Rattle.std.proofs.lemmas.Int.{ints}
 use Rattle.std.proofs.lemmas.List.FromFn.{length-map-range_with_len, get_or-map-range_with_len}
 use Rattle.stn_model.specs.declared.ids.Constraint.{Constraint}
-use Rattle.stn_model.specs.Arcs.{from_at, to_at, bound_at}
+use Rattle.stn_model.specs.Arcs.{arc_at, from_at, to_at, bound_at}
 use Rattle.stn_model.specs.Schedules.{KeepsArcs, Satisfies, time_at}
-use Rattle.stn_walk.specs.ClosedParts.{AreWithin}
+use Rattle.stn_model.proofs.Bridges.{arc_contained}
 use Rattle.stn_walk.specs.Eliminations.{lesser}
+use Rattle.stn_walk.specs.Distances.{HasEndsBelow}
 use Rattle.stn_walk.proofs.Finals.{IsLower, value}
 
 -- the end of an arc has a number where its start has one, at most its bound above that
@@ -87,16 +88,17 @@ first_time zero f = refl
 first_time (suc n) f = let e = time_of (suc n) f 0 (omega arith) in omega (arith, ints)
 
 -- where each point has a number they satisfy the arcs
-pub potential_satisfies : (points : ℕ) (arcs : List Constraint) (f : ℕ → Option ℤ) → AreWithin points arcs → IsPotential arcs f
+pub potential_satisfies : (points : ℕ) (arcs : List Constraint) (f : ℕ → Option ℤ) → HasEndsBelow points arcs → IsPotential arcs f
     → ((p : ℕ) → p < points → (x : ℤ) × IsLower x (f p)) → Satisfies points arcs (times_of points f)
-potential_satisfies points arcs f within rises there = record {
+potential_satisfies points arcs f below rises there = record {
   one_each = length-map-range_with_len (λ p. value (f p) -ℤ value (f 0)) 0 points;
   first = first_time points f;
   keeps = λ n lt.
-      let some = there (from_at arcs n) (within n lt).starts in
+      let ends = below (arc_at arcs n) (arc_contained arcs n lt) in
+      let some = there (from_at arcs n) ends.0 in
       let low = lower_value some.0 (f (from_at arcs n)) some.1 in
       let high = value_lower (value (f (from_at arcs n)) +ℤ bound_at arcs n) (f (to_at arcs n)) (rises n lt (value (f (from_at arcs n))) low) in
-      let u = time_of points f (from_at arcs n) (within n lt).starts in
-      let v = time_of points f (to_at arcs n) (within n lt).ends in
+      let u = time_of points f (from_at arcs n) ends.0 in
+      let v = time_of points f (to_at arcs n) ends.1 in
       omega (arith, ints);
 }

@@ -1,13 +1,16 @@
--- Least weights of walks, and the least bounds and schedules that they give (Dechter, Meiri and Pearl 1991): IsLeastWalk, ReachesZero,
--- LeastWalksAreBounds, InnerWeightsAreBounds, NoNegativeIsConsistent, LeastBoundsAreThere.
-use Rattle.std.specs.Prelude.{◌≡◌, ◌≢◌, ◌↔◌, ℕ, ◌<◌, ℤ, ◌≤ℤ◌, List, Some, true}
+-- Least weights of walks, and the least bounds and schedules that they give (Dechter, Meiri and Pearl 1991): HasEndsBelow, IsLeastWalk,
+-- ReachesZero, LeastWalksAreBounds, InnerWeightsAreBounds, NoNegativeIsConsistent, LeastBoundsAreThere.
+use Rattle.std.specs.Prelude.{◌≡◌, ◌≢◌, ◌↔◌, ℕ, ◌<◌, ℤ, ◌≤ℤ◌, Contains, List, Some, true}
 use Rattle.stn_model.specs.declared.ids.Constraint.{Constraint}
 use Rattle.stn_model.specs.Walks.{IsWalk, weight}
 use Rattle.stn_model.specs.ArcWalks.{IsArcWalk, IsInnerLeast, NoNegative}
 use Rattle.stn_model.specs.Schedules.{IsConsistent, IsLeastBound}
 use Rattle.stn_model.specs.Net.{Net, point_count, arcs_of}
 use Rattle.stn_model.specs.Valid.{IsNetwork}
-use Rattle.stn_walk.specs.ClosedParts.{AreWithin}
+
+-- each arc joins two of the first points
+abbrev pub HasEndsBelow : ℕ → List Constraint → Type 0
+HasEndsBelow points arcs = (a : Constraint) → Contains arcs a → (a.from.0 < points) × (a.to.0 < points)
 
 -- some walk from i to j weighs b, and none weighs less
 pub record IsLeastWalk (arcs : List Constraint) (i j : ℕ) (b : ℤ) : Type 0 where
@@ -24,19 +27,19 @@ ReachesZero points arcs =
 -- the least weight of the walks between two points is the least bound, where some schedule satisfies the arcs
 abbrev pub LeastWalksAreBounds : Type 0
 LeastWalksAreBounds =
-    (points : ℕ) (arcs : List Constraint) → AreWithin points arcs → IsConsistent points arcs
+    (points : ℕ) (arcs : List Constraint) → HasEndsBelow points arcs → IsConsistent points arcs
     → (i j : ℕ) (b : ℤ) → IsLeastWalk arcs i j b ↔ IsLeastBound points arcs i j b
 
 -- the same of walks that are lists of arcs, between two different points
 abbrev pub InnerWeightsAreBounds : Type 0
 InnerWeightsAreBounds =
-    (points : ℕ) (arcs : List Constraint) → AreWithin points arcs → IsConsistent points arcs
+    (points : ℕ) (arcs : List Constraint) → HasEndsBelow points arcs → IsConsistent points arcs
     → (i j : ℕ) (b : ℤ) → i ≢ j → IsInnerLeast (λ _. true) arcs i j (Some b) ↔ IsLeastBound points arcs i j b
 
 -- some schedule satisfies the arcs exactly where no closed walk is negative
 abbrev pub NoNegativeIsConsistent : Type 0
 NoNegativeIsConsistent =
-    (points : ℕ) (arcs : List Constraint) → AreWithin points arcs → NoNegative (λ _. true) arcs ↔ IsConsistent points arcs
+    (points : ℕ) (arcs : List Constraint) → HasEndsBelow points arcs → NoNegative (λ _. true) arcs ↔ IsConsistent points arcs
 
 -- a consistent network has a least bound between any two of its points
 abbrev pub LeastBoundsAreThere : Type 0
