@@ -5,3 +5,4 @@ pub mod Revisits
 pub mod Picks
 pub mod Summaries
 pub mod Eliminated
+pub mod JoinedPlaces

@@ -3,3 +3,4 @@ pub mod Views
 pub mod Origins
 pub mod Taken
 pub mod Picked
+pub mod Underway

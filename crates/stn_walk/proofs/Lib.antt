@@ -16,3 +16,5 @@ pub mod Exits
 pub mod Finals
 pub mod LightWalks
 pub mod NewArcs
+pub mod Potentials
+pub mod Distances
