@@ -150,6 +150,7 @@ fn walks_are_pruned(rt: HostRuntime) -> Result<(), Fail> {
 }
 
 /// Two points, an arc from 0 to 1 and one back.
+#[derive(Clone, Copy)]
 struct Pair {
     there: i32,
     back: i32,
