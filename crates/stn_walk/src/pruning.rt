@@ -40,7 +40,8 @@ pub fn prune(
     Ok(Walk::new(path.into_arcs()))
 }
 
-/// [`negative_cycle`] at a network.
+/// A negative cycle of arcs of a closed walk of a network whose weight is below 0, in normal form:
+/// [`negative_cycle`] over the network's arcs.
 pub fn prune_cycle(alloc: Global, net: &Network, walk: &Walk) -> Result<Walk, OutOfMemory>
     requires { walks.IsNegativeClosed (arcs_of net.now) walk.now }
     ensures cycle { IfOk result (walks.IsNegativeCycle (arcs_of net.now)) }
