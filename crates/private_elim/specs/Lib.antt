@@ -2,5 +2,9 @@ pub mod Locals
 pub mod Views
 pub mod Origins
 pub mod Taken
-pub mod Picked
 pub mod Underway
+pub mod Picked
+pub mod ReducedViews
+pub mod ReducedInside
+pub mod Reductions
+pub mod Backs

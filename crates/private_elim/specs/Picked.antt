@@ -8,6 +8,7 @@ use Rattle.stn_walk.specs.Eliminations.{is_in}
 use Rattle.elim_step.specs.declared.pick.Candidate.{Candidate}
 use Rattle.elim_step.specs.Picks.{Picks, candidate_at}
 use Rattle.private_elim.specs.Locals.{LocalView, arcs_in, is_private_in, is_point_of}
+use Rattle.private_elim.specs.Taken.{StopsAt}
 
 -- q is another point of the local problem that is not taken, and arcs, taken without direction, join it with p through taken points
 pub record IsMet (v : LocalView) (taken : List ℕ) (p q : ℕ) : Type 0 where
@@ -42,3 +43,12 @@ pub record IsPicked (answers : ℕ → ℕ → ℕ → Type 0) (v : LocalView) (
 abbrev pub ArePicked : (ℕ → ℕ → ℕ → Type 0) → LocalView → List ℕ → Type 0
 ArePicked answers v [] = ⊤
 ArePicked answers v (p ∷ taken) = IsPicked answers v taken p × ArePicked answers v taken
+
+-- in some order that the picker allows, `place` points come before the first that fails, and it fails with `other` first
+pub record IsStopped (answers : ℕ → ℕ → ℕ → Type 0) (v : LocalView) (place other : ℕ) : Type 0 where
+  pub taken : List ℕ
+  pub picked : ArePicked answers v taken
+  pub many : length taken ≡ place
+  pub next : ℕ
+  pub next_picked : IsPicked answers v taken next
+  pub stops : StopsAt v taken next other

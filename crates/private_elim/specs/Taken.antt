@@ -1,8 +1,9 @@
--- A local problem of which some private points are taken, and what is left of it: TakenView, IsTaken, Fails, StopsAt, NoneFails.
+-- A local problem of which some private points are taken, and what is left of it: TakenView, IsTaken, HasTaken, Fails, StopsAt, NoneFails.
 -- `order` is the points taken, in their order; `taken` is the same with the last one first.
 use Rattle.std.specs.Prelude.{◌≡◌, ◌≢◌, ℕ, ℤ, ◌<◌, pos, ◌+ℤ◌, ◌<ℤ◌, List, [], ◌∷◌, Bool, true, false, Option, Some, length, reverse, ⊤}
 use Rattle.std.specs.List.{AllByRecursion}
 use Rattle.stn_model.specs.Walks.{AllDifferent}
+use Rattle.stn_model.specs.ArcWalks.{NoNegative}
 use Rattle.stn_model.specs.Inner.{IsInnerWeight}
 use Rattle.stn_walk.specs.Eliminations.{is_in, before_both}
 use Rattle.stn_walk.specs.Joins.{joined_of}
@@ -27,6 +28,14 @@ pub record IsTaken (v : LocalView) (order : List ℕ) (at : ℕ → ℕ → Opti
   pub joins : (i j : ℕ) → i < length v.points → j < length v.points → i ≢ j
       → joined i j ≡ joined_of (arcs_in v) (before_both (reverse order) (point_at v.points i) (point_at v.points j)) (point_at v.points i) (point_at v.points j)
   pub alone : (i : ℕ) → joined i i ≡ false
+
+-- what is known of it without its cells
+pub record HasTaken (t : TakenView) : Type 0 where
+  pub known : IsLocal t.local
+  pub numbered : all_numbered t.local.arcs ≡ true
+  pub private : AllByRecursion (λ p. is_private_in t.local p ≡ true) t.order
+  pub once : AllDifferent t.order
+  pub none_below : NoNegative (is_in (reverse t.order)) (arcs_in t.local)
 
 -- another point that is not taken has two weights with p, through taken points, that sum below 0
 pub record Fails (v : LocalView) (taken : List ℕ) (p q : ℕ) : Type 0 where

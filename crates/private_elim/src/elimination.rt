@@ -1,11 +1,12 @@
 //! A local problem of which some private points are taken: the weights between its points through those.
-ghost use Rattle.std.specs.Prelude.{◌≡◌, ◌≢◌, ℕ, ◌<◌, ◌+ℤ◌, ◌<ℤ◌, ◌++◌, ◌∷◌, [], ◌⊎◌, true, false, pos, Option, Some, None, is_some, IfOk, IfSome, OnErr, MatchOption, length, reverse};
+ghost use Rattle.std.specs.Prelude.{◌≡◌, ◌≢◌, ℕ, ◌<◌, ◌+ℤ◌, ◌<ℤ◌, ◌++◌, ◌∷◌, [], ◌⊎◌, true, false, pos, neg_ℤ, ◌≤ℤ◌, map, Option, Some, None, is_some, IfOk, IfSome, OnErr, MatchOption, length, reverse};
 ghost use Rattle.std.specs.List.{AllByRecursion};
 ghost use Rattle.stn_model.specs.Walks as walks;
-ghost use Rattle.stn_walk.specs.Eliminations.{is_in};
+ghost use Rattle.stn_walk.specs.Eliminations.{is_in, before_both};
+ghost use Rattle.stn_walk.specs.Joins.{joined_of};
 ghost use Rattle.elim_step.specs.Eliminated.{forward_of, point_at};
 ghost use Rattle.private_elim.specs.Locals.{arcs_in, is_private_in, all_numbered, is_point_of};
-ghost use Rattle.private_elim.specs.Taken.{TakenView, StopsAt};
+ghost use Rattle.private_elim.specs.Taken.{TakenView, StopsAt, HasTaken};
 
 use crate::local::Local;
 use dist_rows::{Cell, MatrixRows, Rows, Via};
@@ -54,8 +55,57 @@ impl Elimination {
         ensures local { self.new.local ≡ self.old.local }
         ensures taken { IfOk result (λ r. MatchOption r (self.new.order ≡ self.old.order ++ point_at self.old.local.points place ∷ [])
             (λ other. (self.new.order ≡ self.old.order)
-                × StopsAt self.old.local (reverse self.old.order) (point_at self.old.local.points place) (point_at self.old.local.points other))) }
+            × StopsAt self.old.local (reverse self.old.order) (point_at self.old.local.points place) (point_at self.old.local.points other))) }
         ensures err { OnErr result (self.new ≡ self.old) }
+    {
+        unreachable!()
+    }
+
+    /// The number of places.
+    pub fn size(&self) -> u32
+        ensures value { result ≡ length self.now.local.points }
+        ensures facts { HasTaken self.now }
+    {
+        self.local.size()
+    }
+
+    /// The local problem.
+    pub fn local(&self) -> &Local
+        ensures { result.now ≡ self.now.local }
+    {
+        &self.local
+    }
+
+    /// The points taken, in their order.
+    pub fn order(&self) -> &[PointId]
+        ensures { map (λ p. p.0) result.now ≡ self.now.order }
+    {
+        self.order.as_slice()
+    }
+
+    /// The weight from one place to another through the taken points that come before both; none from a place to itself.
+    pub fn weight(&self, from: u32, to: u32) -> Option<i128>
+        requires within { (from < length self.now.local.points) × (to < length self.now.local.points) }
+        ensures same { from ≡ to → result ≡ None }
+        ensures value { from ≢ to → result ≡ forward_of (arcs_in self.now.local) (reverse self.now.order) (point_at self.now.local.points from) (point_at self.now.local.points to) }
+        ensures light { IfSome result (λ w. (neg_ℤ (pos 4503599627370496) ≤ℤ w) × (w ≤ℤ pos 4503599627370496)) }
+    {
+        unreachable!()
+    }
+
+    /// Whether two places are joined through the taken points that come before both; a place is not joined with itself.
+    pub fn is_joined(&self, i: u32, j: u32) -> bool
+        requires within { (i < length self.now.local.points) × (j < length self.now.local.points) }
+        ensures same { i ≡ j → result ≡ false }
+        ensures value { i ≢ j → result ≡ joined_of (arcs_in self.now.local) (before_both (reverse self.now.order) (point_at self.now.local.points i) (point_at self.now.local.points j))
+            (point_at self.now.local.points i) (point_at self.now.local.points j) }
+    {
+        unreachable!()
+    }
+
+    /// The same local problem with the same points taken.
+    pub fn copy(&self, alloc: Global) -> Result<Elimination, OutOfMemory>
+        ensures { IfOk result (λ e. e ≡ self.now) }
     {
         unreachable!()
     }

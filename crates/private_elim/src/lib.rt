@@ -1,7 +1,17 @@
 //! An agent's own part of a network, and what is left of it for others once its private points are eliminated.
 #![tactic(auto)]
 
+pub mod back;
+mod conflict;
+pub mod eliminate;
 mod elimination;
 pub mod local;
+pub mod outcome;
+pub mod reduced;
+mod summarise;
 
+pub use back::{PrivateBounds, back_sweep};
+pub use eliminate::{eliminate_listed, eliminate_private};
 pub use local::{Local, LocalArc};
+pub use outcome::PrivateOutcome;
+pub use reduced::Reduced;

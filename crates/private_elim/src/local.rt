@@ -49,4 +49,12 @@ impl Local {
     {
         unreachable!()
     }
+
+    /// The number of places.
+    pub fn size(&self) -> u32
+        ensures value { result ≡ length self.now.points }
+        ensures valid { IsLocal self.now }
+    {
+        unreachable!()
+    }
 }

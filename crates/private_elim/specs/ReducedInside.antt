@@ -1,0 +1,6 @@
+-- How the fields of a reduced local problem are seen: reduced_view.
+use Rattle.private_elim.specs.declared.reduced.Reduced.TheInside.{Inside}
+use Rattle.private_elim.specs.ReducedViews.{ReducedView}
+
+abbrev pub reduced_view : Inside → ReducedView
+reduced_view r = record { local = r.part.local; order = r.part.order; summary = r.summary }

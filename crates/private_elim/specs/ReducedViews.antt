@@ -1,0 +1,39 @@
+-- What contracts see of a reduced local problem: ReducedView, entry_of, entry_in, weight_between, IsReduced.
+use Rattle.std.specs.Prelude.{◌≡◌, ℕ, ℤ, List, [], ◌∷◌, Bool, true, ◌&&◌, ◌==◌, Option, Some, None, map, reverse, if◌then◌else◌}
+use Rattle.stn_model.specs.Net.{Net}
+use Rattle.stn_model.specs.Valid.{IsNetwork}
+use Rattle.stn_model.specs.Summaries.{Entry, IsSummary}
+use Rattle.stn_walk.specs.Eliminations.{is_in}
+use Rattle.elim_step.specs.declared.summary.SummaryEntry.{SummaryEntry}
+use Rattle.elim_step.specs.Eliminated.{forward_of}
+use Rattle.private_elim.specs.Locals.{LocalView, local_of, arcs_in, is_private_in}
+use Rattle.private_elim.specs.Taken.{TakenView}
+
+-- a local problem, the order in which its private points were taken, and its summary
+pub record ReducedView : Type 0 where
+  pub local : LocalView
+  pub order : List ℕ
+  pub summary : List SummaryEntry
+
+-- an entry of a summary, by numbers of points
+abbrev pub entry_of : SummaryEntry → Entry
+entry_of e = record { from = e.from.0; to = e.to.0; weight = e.weight }
+
+-- the weight of a pair's entry, where it has one
+abbrev pub entry_in : List SummaryEntry → ℕ → ℕ → Option ℤ
+entry_in [] i j = None
+entry_in (e ∷ es) i j = if (e.from.0 == i) && (e.to.0 == j) then Some e.weight else entry_in es i j
+
+-- the first of two that is there
+abbrev pub first_there : Option ℤ → Option ℤ → Option ℤ
+first_there None o = o
+first_there (Some w) o = Some w
+
+-- the weight of a pair's entry, and of its forward weight where it has no entry
+abbrev pub weight_between : ReducedView → ℕ → ℕ → Option ℤ
+weight_between r i j = first_there (entry_in r.summary i j) (if i == j then None else forward_of (arcs_in r.local) (reverse r.order) i j)
+
+-- all private points are taken, and the summary is that of the agent in every network whose local problem it is
+pub record IsReduced (local : LocalView) (order : List ℕ) (summary : List SummaryEntry) : Type 0 where
+  pub whole : (p : ℕ) → is_private_in local p ≡ true → is_in (reverse order) p ≡ true
+  pub sums_up : (net : Net) → IsNetwork net → local ≡ local_of net local.agent → IsSummary net local.agent (map entry_of summary)

@@ -1,0 +1,83 @@
+//! A local problem whose private points are all taken: its summary, the weights between its points, and their walks.
+ghost use Rattle.std.specs.Prelude.{◌≡◌, ◌≢◌, ℕ, ◌≤◌, true, false, Some, None, IfOk, is_some, reverse, map};
+ghost use Rattle.stn_model.specs.Net.{arcs_of};
+ghost use Rattle.stn_model.specs.Walks as walks;
+ghost use Rattle.stn_model.specs.Inner.{IsInnerWeight};
+ghost use Rattle.stn_walk.specs.Eliminations.{is_in, before_both};
+ghost use Rattle.private_elim.specs.Locals.{arcs_in, is_point_of};
+ghost use Rattle.private_elim.specs.ReducedViews.{weight_between, IsReduced};
+ghost use Rattle.private_elim.specs.Reductions.{OfNetwork, AreOwn};
+
+use crate::elimination::Elimination;
+use elim_step::Summary;
+use std::alloc::Global;
+use std::marker::Model;
+use stn_model::{OutOfMemory, PointId};
+use stn_walk::Walk;
+
+/// A local problem whose private points are all taken, with the order in which they were, its summary, and the weights between its
+/// points through private ones.
+#[derive(Drop)]
+pub struct Reduced {
+    pub(crate) part: Elimination,
+    pub(crate) summary: Summary,
+}
+
+impl Model for Reduced {
+    ghost use Rattle.private_elim.specs.ReducedViews.{ReducedView, IsReduced};
+
+    ghost Value = { ReducedView };
+
+    ghost use Rattle.private_elim.specs.ReducedInside.{reduced_view};
+
+    ghost view = { reduced_view };
+
+    ghost invariant = { λ r. IsReduced r.part.local r.part.order r.summary };
+}
+
+impl Reduced {
+    /// The private points, in the order in which they were taken.
+    pub fn order(&self) -> &[PointId]
+        ensures { map (λ p. p.0) result.now ≡ self.now.order }
+    {
+        unreachable!()
+    }
+
+    /// What the agent tells the others: the summary of its own arcs.
+    pub fn summary(&self) -> &Summary
+        ensures value { result.now ≡ self.now.summary }
+        ensures reduced { IsReduced self.now.local self.now.order self.now.summary }
+    {
+        unreachable!()
+    }
+
+    /// The least weight of walks of own arcs from one point to another whose inner points are private and come before both in the
+    /// order; shared points and the reference point come after all private ones. None exactly where there is no such walk, the
+    /// points are equal, or one is not of the local problem. Takes no memory.
+    pub fn forward(&self, i: PointId, j: PointId) -> Option<i128>
+        ensures same { i.0 ≡ j.0 → result ≡ None }
+        ensures strange_start { is_point_of self.now.local i.0 ≡ false → result ≡ None }
+        ensures strange_end { is_point_of self.now.local j.0 ≡ false → result ≡ None }
+        ensures least { i.0 ≢ j.0 → IsInnerWeight (is_in (before_both (reverse self.now.order) i.0 j.0)) (arcs_in self.now.local) i.0 j.0 result }
+    {
+        unreachable!()
+    }
+
+    /// A walk of own arcs, by their numbers in the network, for a pair that has an entry of the summary or a forward weight: its
+    /// weight is that of the entry where the pair has one, and else the forward weight.
+    pub fn walk(&self, alloc: Global, i: PointId, j: PointId) -> Result<Walk, OutOfMemory>
+        requires { is_some (weight_between self.now i.0 j.0) ≡ true }
+        ensures walk { IfOk result (λ w. OfNetwork self.now.local (λ net. walks.IsWalk (arcs_of net) i.0 j.0 w)) }
+        ensures own { IfOk result (λ w. OfNetwork self.now.local (λ net. AreOwn net self.now.local.agent w)) }
+        ensures weight { IfOk result (λ w. OfNetwork self.now.local (λ net. Some (walks.weight (arcs_of net) w) ≡ weight_between self.now i.0 j.0)) }
+    {
+        unreachable!()
+    }
+
+    /// An equal reduced local problem.
+    pub fn copy(&self, alloc: Global) -> Result<Reduced, OutOfMemory>
+        ensures { IfOk result (λ r. r ≡ self.now) }
+    {
+        unreachable!()
+    }
+}
