@@ -1,6 +1,7 @@
 -- Which points are shared, from their kinds: is_shared_kind.
-use Rattle.std.proofs.Common.{◌≡◌, ℕ, Bool, true, false, ◌&&◌, ◌||◌, List, [], ◌∷◌, nat_eq, refl, sym, ap, ◌∙◌, arith, if◌then◌else◌}
-use Rattle.std.specs.List.{list_any}
+use Rattle.std.proofs.Common.{◌≡◌, ℕ, Bool, true, false, ◌&&◌, ◌||◌, List, [], ◌∷◌, map, nat_eq, refl, sym, ap, ◌∙◌, arith, if◌then◌else◌}
+use Rattle.std.specs.List.{All, list_any}
+use Rattle.std.proofs.lemmas.List.Elements.{All-head, All-tail}
 use Rattle.std.proofs.lemmas.Bool.Decides.{nat_tests}
 use Rattle.stn_model.specs.declared.ids.Constraint.{Constraint}
 use Rattle.stn_model.specs.declared.ids.Kind.{Kind}
@@ -49,3 +50,13 @@ unshared net p kind other is = sym (plain kind other) ∙ ap is_shared_kind is �
     plain Reference h = refl
     plain Private h = refl
     plain Shared h = absurd (h refl)
+
+-- points of the same kinds in two networks are shared in both or in neither
+pub shared_agree : (net other : Net) (points : List ℕ) → All (λ p. kind_of net p ≡ kind_of other p) points
+    → map (is_shared net) points ≡ map (is_shared other) points
+shared_agree net other [] h = refl
+shared_agree net other (p ∷ points) h =
+    let here = All-head (λ p. kind_of net p ≡ kind_of other p) p points h in
+    let rest = All-tail (λ p. kind_of net p ≡ kind_of other p) p points h in
+    ap (λ b. b ∷ map (is_shared net) points) (sym (shared_kind net p) ∙ ap is_shared_kind here ∙ shared_kind other p)
+    ∙ ap (λ bs. is_shared other p ∷ bs) (shared_agree net other points rest)

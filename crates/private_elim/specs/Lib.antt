@@ -1,3 +1,4 @@
 pub mod Locals
 pub mod Views
 pub mod Held
+pub mod Laws
