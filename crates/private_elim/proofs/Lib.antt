@@ -1,0 +1,7 @@
+pub mod Places
+pub mod Searches
+pub mod Owned
+pub mod SharedPoints
+pub mod OwnArcs
+pub mod LocalFacts
+pub mod Windows

@@ -8,3 +8,5 @@ pub mod ReducedViews
 pub mod ReducedInside
 pub mod Reductions
 pub mod Backs
+pub mod Held
+pub mod Laws

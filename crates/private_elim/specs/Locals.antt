@@ -1,11 +1,11 @@
 -- What contracts see of an agent's own part of a network (its local problem: Boerkoel and Durfee 2013): LocalView, owned_below,
 -- own_below, points_of, numbered_own, local_from, local_of, window_arcs, IsAdded, IsLocal, arcs_in, all_numbered, point_at, place_in,
--- private_at, is_private_in, is_seen_in, is_point_of, horizon_in.
+-- private_at, is_private_in, is_seen_in, is_point_of, horizon_in, no_local_arc, local_arc_at, IsWindow, IsWindowOf.
 use Rattle.std.specs.Prelude.{◌≡◌, ◌≢◌, ℕ, zero, suc, ◌+◌, ◌<◌, ℤ, pos, neg_ℤ, ◌≤ℤ◌, List, [], ◌∷◌, ◌++◌, map, length, Bool, true, false, ◌&&◌, not, ◌==◌, Option, Some, None, is_some, slice_index_or, if◌then◌else◌, Contains}
 use Rattle.std.specs.List.{All, list_all}
 use Rattle.std.specs.Option.{option_map}
 use Rattle.stn_model.specs.declared.ids.Constraint.{Constraint}
-use Rattle.stn_model.specs.Arcs.{arc_at, bound_at}
+use Rattle.stn_model.specs.Arcs.{arc_at, bound_at, no_arc}
 use Rattle.stn_model.specs.Net.{Net, arcs_of, point_count}
 use Rattle.stn_model.specs.Valid.{IsNetwork}
 use Rattle.stn_model.specs.Kinds.{is_shared, is_owned_by, is_own}
@@ -115,3 +115,24 @@ is_seen_in v p = passes_at (λ k. not (private_at v k)) (place_in v.points p)
 -- the horizon: the bound of its first arc, which is the first of the two that its first point has with z; 0 where there is no point
 abbrev pub horizon_in : LocalView → ℤ
 horizon_in v = bound_at (arcs_in v) 0
+
+-- what stands past the end of the arcs
+abbrev pub no_local_arc : LocalArc
+no_local_arc = record { number = None; arc = no_arc }
+
+-- the arc at a place among the arcs
+abbrev pub local_arc_at : List LocalArc → ℕ → LocalArc
+local_arc_at arcs k = slice_index_or arcs k no_local_arc
+
+-- the ends of the window lie between 0 and 2^40
+pub record IsWindow (w : Window) : Type 0 where
+  pub lo_low : pos 0 ≤ℤ w.lo
+  pub lo_high : w.lo ≤ℤ pos 1099511627776
+  pub hi_low : pos 0 ≤ℤ w.hi
+  pub hi_high : w.hi ≤ℤ pos 1099511627776
+
+-- a window of one of the points other than z
+pub record IsWindowOf (points : List ℕ) (w : Window) : Type 0 where
+  pub known : Contains points w.point.0
+  pub not_z : w.point.0 ≢ 0
+  pub range : IsWindow w

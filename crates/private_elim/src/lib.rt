@@ -5,6 +5,7 @@ pub mod back;
 mod conflict;
 pub mod eliminate;
 mod elimination;
+pub mod laws;
 pub mod local;
 pub mod outcome;
 pub mod reduced;

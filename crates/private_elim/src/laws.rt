@@ -1,0 +1,7 @@
+//! Laws about local problems, which no code keeps: functions with an empty body, whose contract is the law.
+ghost use Rattle.private_elim.specs.Laws.{LocalsSeeNoMore};
+
+/// An agent's local problem has nothing of the network but the agent's points, their kinds, and its own arcs with their numbers.
+pub fn locals_see_no_more()
+    ensures { LocalsSeeNoMore }
+{}
