@@ -16,3 +16,4 @@ pub mod Exits
 pub mod Finals
 pub mod LightWalks
 pub mod NewArcs
+pub mod Joins

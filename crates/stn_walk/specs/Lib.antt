@@ -5,3 +5,4 @@ pub mod Views
 pub mod ClosedParts
 pub mod Laws
 pub mod Eliminations
+pub mod Joins
