@@ -4,3 +4,4 @@ pub mod Regions
 pub mod Whole
 pub mod Revisits
 pub mod Finds
+pub mod JoinWrites

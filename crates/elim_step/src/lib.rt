@@ -2,6 +2,7 @@
 #![tactic(auto)]
 
 mod block;
+pub mod joins;
 mod lower;
 mod neighbours;
 pub mod pick;
@@ -11,6 +12,7 @@ pub mod step;
 pub mod steps;
 pub mod summary;
 
+pub use joins::Joins;
 pub use pick::{Candidate, Picker};
 pub use revisit::revisit_point;
 pub use step::{Found, eliminate_point};
