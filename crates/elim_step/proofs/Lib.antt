@@ -5,3 +5,6 @@ pub mod Whole
 pub mod Revisits
 pub mod Finds
 pub mod JoinWrites
+pub mod Weights
+pub mod Sound
+pub mod JoinFacts

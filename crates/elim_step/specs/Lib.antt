@@ -4,3 +4,5 @@ pub mod Regions
 pub mod Revisits
 pub mod Picks
 pub mod Summaries
+pub mod Eliminated
+pub mod JoinedPlaces

@@ -1,2 +1,6 @@
 pub mod Locals
 pub mod Views
+pub mod Origins
+pub mod Taken
+pub mod Picked
+pub mod Underway

@@ -1,6 +1,7 @@
 //! An agent's own part of a network, and what is left of it for others once its private points are eliminated.
 #![tactic(auto)]
 
+mod elimination;
 pub mod local;
 
 pub use local::{Local, LocalArc};

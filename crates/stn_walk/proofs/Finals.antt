@@ -42,7 +42,8 @@ rest_from arcs m j finals none_below least rest h =
           elim h [ inl d ↦ absurd (apart d.1) | inr g ↦ inner_lower every arcs m j (finals m) rest (least apart) g ]
     ] refl
 
-rest_to : (arcs : List Constraint) (m j : ℕ) (finals : ℕ → Option ℤ) → NoNegative every arcs → (m ≢ j → IsInnerLeast every arcs j m (finals m)) → (front : List Constraint) → Rest arcs j m front → IsLower (arcs_weight front) (reach finals j m)
+-- a walk to m weighs at least what lies between the points
+pub rest_to : (arcs : List Constraint) (m j : ℕ) (finals : ℕ → Option ℤ) → NoNegative every arcs → (m ≢ j → IsInnerLeast every arcs j m (finals m)) → (front : List Constraint) → Rest arcs j m front → IsLower (arcs_weight front) (reach finals j m)
 rest_to arcs m j finals none_below least front h =
     elim (m == j) as (λ b. (m == j) ≡ b → IsLower (arcs_weight front) (if b then Some (pos 0) else finals m)) [
       | true ↦ λ t. let e : m ≡ j = grind (arith, nat_tests) in
@@ -68,14 +69,16 @@ goes_every : (inner : ℕ → Bool) (arcs : List Constraint) (m j : ℕ) (w : Li
 goes_every inner arcs m j [] h = h
 goes_every inner arcs m j (a ∷ w) h = (refl, h.1, h.2, goes_every inner arcs a.to.0 j w h.3)
 
-inner_every : (inner : ℕ → Bool) (arcs : List Constraint) (i j : ℕ) (w : List Constraint) → IsInner inner arcs i j w → IsInner every arcs i j w
+-- a walk whose inner points are in a set is one through any points
+pub inner_every : (inner : ℕ → Bool) (arcs : List Constraint) (i j : ℕ) (w : List Constraint) → IsInner inner arcs i j w → IsInner every arcs i j w
 inner_every inner arcs i j [] h = absurd h
 inner_every inner arcs i j (a ∷ w) h = (h.0, h.1, goes_every inner arcs a.to.0 j w h.2)
 
 abbrev Reached : List Constraint → ℕ → ℕ → ℤ → Type 0
 Reached arcs i j b = (w : List Constraint) × IsInner every arcs i j w × (arcs_weight w ≡ b)
 
-abbrev value : Option ℤ → ℤ
+-- the number that is there, or 0
+abbrev pub value : Option ℤ → ℤ
 value None = pos 0
 value (Some b) = b
 
@@ -88,7 +91,7 @@ joined_to inner arcs j m k front rest (inl d) from = (rest, subst (λ p. IsInner
 joined_to inner arcs j m k front rest (inr g) from = (front ++ rest, inner_joined every arcs j m k front rest refl g (inner_every inner arcs m k rest from), arcs_weight-append front rest)
 
 -- the walk of a arcs_weight that is reached, which may be empty
-abbrev RestOf : List Constraint → ℕ → ℕ → Option ℤ → Type 0
+abbrev pub RestOf : List Constraint → ℕ → ℕ → Option ℤ → Type 0
 RestOf arcs i j None = Unit {0}
 RestOf arcs i j (Some c) = (w : List Constraint) × Rest arcs i j w × (arcs_weight w ≡ c)
 
@@ -103,7 +106,8 @@ rest_of_from arcs m j finals least =
       | false ↦ λ t. let apart : m ≢ j = grind (arith, nat_tests) in rest_of arcs m j (finals m) (least apart)
     ] refl
 
-rest_of_to : (arcs : List Constraint) (m j : ℕ) (finals : ℕ → Option ℤ) → (m ≢ j → IsInnerLeast every arcs j m (finals m)) → RestOf arcs j m (reach finals j m)
+-- and some walk to m has that weight
+pub rest_of_to : (arcs : List Constraint) (m j : ℕ) (finals : ℕ → Option ℤ) → (m ≢ j → IsInnerLeast every arcs j m (finals m)) → RestOf arcs j m (reach finals j m)
 rest_of_to arcs m j finals least =
     elim (m == j) as (λ b. (m == j) ≡ b → RestOf arcs j m (if b then Some (pos 0) else finals m)) [
       | true ↦ λ t. let e : j ≡ m = grind (arith, nat_tests) in ([], inl (refl, e), refl)

@@ -17,3 +17,5 @@ pub mod Finals
 pub mod LightWalks
 pub mod NewArcs
 pub mod Joins
+pub mod Potentials
+pub mod Distances

@@ -1,6 +1,6 @@
 -- Eliminating points one by one: what the cells between the points that are left come to, as numbers and not yet as code (the shortest paths
 -- of Floyd 1962, over some points only): with_point, lesser, sum_of, IsNotBelow, is_in, bound_of, cell_of, before_both, CellsAreLeast, StaysNonNegative.
-use Rattle.std.specs.Prelude.{◌≡◌, ◌≢◌, ℕ, ℤ, pos, ◌+ℤ◌, ◌≤ℤ◌, List, [], ◌∷◌, Bool, true, false, ◌||◌, ◌&&◌, ◌==◌, Option, Some, None, int_lt, if◌then◌else◌}
+use Rattle.std.specs.Prelude.{◌≡◌, ◌≢◌, ℕ, ℤ, pos, ◌+ℤ◌, ◌≤ℤ◌, List, [], ◌∷◌, Bool, false, ◌||◌, ◌&&◌, ◌==◌, Option, Some, None, int_lt, if◌then◌else◌}
 use Rattle.stn_model.specs.declared.ids.Constraint.{Constraint}
 use Rattle.stn_model.specs.ArcWalks.{IsInnerLeast, NoNegative}
 

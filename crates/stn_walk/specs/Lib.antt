@@ -6,3 +6,4 @@ pub mod ClosedParts
 pub mod Laws
 pub mod Eliminations
 pub mod Joins
+pub mod Distances

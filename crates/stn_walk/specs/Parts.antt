@@ -2,12 +2,11 @@
 use Rattle.std.specs.Prelude.{◌≡◌, ℕ, ◌<◌, pos, ◌≤ℤ◌, List, ◌++◌, length, slice_index}
 use Rattle.std.specs.List.{All}
 use Rattle.stn_model.specs.declared.ids.Constraint.{Constraint}
-use Rattle.stn_model.specs.Net.{Net, arcs_of}
 use Rattle.stn_model.specs.Walks.{IsWalk, weight}
 
 -- each is the number of an arc
-abbrev pub AreInRange : Net → List ℕ → Type 0
-AreInRange net ns = All (λ n. n < length (arcs_of net)) ns
+abbrev pub AreInRange : List Constraint → List ℕ → Type 0
+AreInRange arcs ns = All (λ n. n < length arcs) ns
 
 -- the list has the same number at both places
 pub record IsRepeat (xs : List ℕ) (i j : ℕ) : Type 0 where

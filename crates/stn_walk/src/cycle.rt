@@ -30,7 +30,7 @@ pub fn is_negative_cycle(net: &Network, walk: &Walk) -> bool
 
 /// Whether the arcs end at different points.
 fn passes_no_point_twice(net: &Network, arcs: &[u32]) -> bool
-    requires { AreInRange net.now arcs.now }
+    requires { AreInRange (arcs_of net.now) arcs.now }
     ensures { IsTrue result ↔ walks.AllDifferent (walks.heads (arcs_of net.now) arcs.now) }
 {
     let _limits = net.points();

@@ -1,6 +1,8 @@
 //! Laws about walks over any list of arcs, a network's or another, for the crates above to cite: functions with an empty body, whose
 //! contract is the law.
 ghost use Rattle.stn_walk.specs.Laws.{WeightsAdd, SchedulesBoundWalks, ClosedWalksExclude, WalksAreCut, CyclesAreFound, CyclesTurn, NormalFormsAreThere, WalksArePruned, SimpleWalksAreLight, ArcWeightsAdd, SchedulesBoundArcWalks, ArcCyclesAreFound};
+ghost use Rattle.stn_walk.specs.Eliminations.{CellsAreLeast, StaysNonNegative};
+ghost use Rattle.stn_walk.specs.Distances.{LeastWalksAreBounds, InnerWeightsAreBounds, NoNegativeIsConsistent, LeastBoundsAreThere};
 
 /// One walk after another is a walk, and their weights add.
 pub fn weights_add()
@@ -60,4 +62,35 @@ pub fn schedules_bound_arc_walks()
 /// The arcs of a closed walk of arcs below 0 have a negative cycle in normal form.
 pub fn arc_cycles_are_found()
     ensures { ArcCyclesAreFound }
+{}
+
+/// The cells of plain elimination are the least weights of the walks over the eliminated points (Floyd 1962).
+pub fn cells_are_least()
+    ensures { CellsAreLeast }
+{}
+
+/// With one more point eliminated no closed walk over the eliminated points is negative, unless its two cells with some point outside sum
+/// below 0.
+pub fn stays_nonnegative()
+    ensures { StaysNonNegative }
+{}
+
+/// The least weight of the walks between two points is the least bound, of arcs that some schedule satisfies (Dechter, Meiri and Pearl 1991).
+pub fn least_walks_are_bounds()
+    ensures { LeastWalksAreBounds }
+{}
+
+/// The same of walks that are lists of arcs.
+pub fn inner_weights_are_bounds()
+    ensures { InnerWeightsAreBounds }
+{}
+
+/// Some schedule satisfies the arcs exactly where no closed walk is negative.
+pub fn no_negative_is_consistent()
+    ensures { NoNegativeIsConsistent }
+{}
+
+/// A consistent network has a least bound between any two of its points.
+pub fn least_bounds_are_there()
+    ensures { LeastBoundsAreThere }
 {}

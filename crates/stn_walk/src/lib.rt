@@ -1,6 +1,7 @@
-//! Walks over the arcs of a network: their weights, negative cycles, and pruning.
+//! Walks over the arcs of a network, or of another list of arcs: their weights, negative cycles, and pruning.
 #![tactic(auto)]
 
+pub mod arc_list;
 pub mod cycle;
 pub mod laws;
 mod normal_form;
@@ -9,8 +10,9 @@ pub mod pruning;
 pub mod walk;
 pub mod weights;
 
+pub use arc_list::ArcList;
 pub use cycle::is_negative_cycle;
-pub use pruning::{prune, prune_cycle};
+pub use pruning::{negative_cycle, prune, prune_cycle};
 pub use walk::Walk;
 pub use weights::weight;
 

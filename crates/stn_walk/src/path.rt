@@ -1,14 +1,14 @@
 //! Paths: walks that pass no point twice, grown arc by arc, with the place of each point marked.
 ghost use Rattle.std.specs.Prelude.{◌≡◌, ℕ, ◌+◌, ◌<◌, ◌≤◌, ◌<ℤ◌, pos, length, IfOk, MatchOption, slice_index, ◌++◌, ◌∷◌, [], take};
-ghost use Rattle.stn_model.specs.Net.{arcs_of, point_count};
 ghost use Rattle.stn_model.specs.Arcs.{to_at};
 ghost use Rattle.stn_walk.specs.Parts.{AreInRange};
 ghost use Rattle.stn_walk.specs.Trails.{GoesOn, GoesOnLight, IsClosed};
 
+use crate::arc_list::ArcList;
 use crate::weights::sum_of;
 use std::alloc::Global;
 use std::marker::Model;
-use stn_model::{Network, OutOfMemory};
+use stn_model::OutOfMemory;
 
 /// The points that a path passes, in order, and the arcs between them.
 #[derive(Drop)]
@@ -99,13 +99,13 @@ impl Path {
 
     /// Goes on by an arc, and where that leads to a point of the path, goes back to it instead: the
     /// part from there on is closed.
-    pub fn go_on(&mut self, net: &Network, n: u32) -> Result<(), OutOfMemory>
-        requires number { n < length (arcs_of net.now) }
-        requires room { point_count net.now ≤ self.old.room }
-        ensures goes { IfOk result (λ _. GoesOn (arcs_of net.now) n self.old self.new) }
+    pub fn go_on<A: ArcList>(&mut self, arcs: &A, n: u32) -> Result<(), OutOfMemory>
+        requires number { n < length (A.list arcs.now) }
+        requires room { A.points arcs.now ≤ self.old.room }
+        ensures goes { IfOk result (λ _. GoesOn (A.list arcs.now) n self.old self.new) }
         ensures room { self.new.room ≡ self.old.room }
     {
-        let head = net.arc(n).to.0;
+        let head = arcs.arc_at(n).to.0;
         let Some(place) = self.place_of(head) else {
             self.push(n, head)?;
             return Ok(());
@@ -116,27 +116,27 @@ impl Path {
 
     /// As [`go_on`](Path::go_on), but where the closed part sums below 0 it is given, and the path
     /// stays.
-    pub fn go_on_or_close(
+    pub fn go_on_or_close<A: ArcList>(
         &mut self,
         alloc: Global,
-        net: &Network,
+        arcs: &A,
         n: u32,
     ) -> Result<Option<Vec<u32>>, OutOfMemory>
-        requires number { n < length (arcs_of net.now) }
-        requires range { AreInRange net.now self.old.arcs }
+        requires number { n < length (A.list arcs.now) }
+        requires range { AreInRange (A.list arcs.now) self.old.arcs }
         requires many { length self.old.points ≡ length self.old.arcs + 1 }
-        requires room { point_count net.now ≤ self.old.room }
-        ensures goes { IfOk result (λ r. MatchOption r (GoesOnLight (arcs_of net.now) n self.old self.new) (λ v. IsClosed (arcs_of net.now) n self.old v.items)) }
+        requires room { A.points arcs.now ≤ self.old.room }
+        ensures goes { IfOk result (λ r. MatchOption r (GoesOnLight (A.list arcs.now) n self.old self.new) (λ v. IsClosed (A.list arcs.now) n self.old v.items)) }
         ensures room { self.new.room ≡ self.old.room }
     {
-        let arc = net.arc(n);
+        let arc = arcs.arc_at(n);
         let head = arc.to.0;
         let Some(place) = self.place_of(head) else {
             self.push(n, head)?;
             return Ok(None);
         };
         let open = &self.arcs[place..];
-        let sum = sum_of(net, open) + arc.bound as i128;
+        let sum = sum_of(arcs, open) + arc.bound as i128;
         if sum < 0 {
             let mut closed = Vec::with_capacity(alloc, open.len() + 1)?;
             closed.extend_from_slice(open)?;

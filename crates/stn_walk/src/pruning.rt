@@ -5,6 +5,7 @@ ghost use Rattle.stn_model.specs.Net.{arcs_of};
 ghost use Rattle.stn_model.specs.Walks as walks;
 ghost use Rattle.stn_walk.specs.Parts.{NoPartIsNegative};
 
+use crate::arc_list::ArcList;
 use crate::normal_form::{place_of_least, turn};
 use crate::path::Path;
 use crate::walk::Walk;
@@ -39,32 +40,52 @@ pub fn prune(
     Ok(Walk::new(path.into_arcs()))
 }
 
-/// A negative cycle of arcs of a closed walk whose weight is below 0, in normal form: it begins
-/// with its arc of least number. One pass finds the first closed part that sums below 0 once the
-/// closed parts before it are dropped; one more turns it.
+/// A negative cycle of arcs of a closed walk of a network whose weight is below 0, in normal form:
+/// [`negative_cycle`] over the network's arcs.
 pub fn prune_cycle(alloc: Global, net: &Network, walk: &Walk) -> Result<Walk, OutOfMemory>
     requires { walks.IsNegativeClosed (arcs_of net.now) walk.now }
     ensures cycle { IfOk result (walks.IsNegativeCycle (arcs_of net.now)) }
     ensures normal { IfOk result walks.IsNormal }
     ensures part { IfOk result (All (Contains walk.now)) }
 {
-    let cycle = negative_part(alloc, net, walk.arcs())?;
+    let cycle = negative_cycle(alloc, net, walk.arcs())?;
+    Ok(Walk::new(cycle))
+}
+
+/// A negative cycle of arcs of a closed walk whose weight is below 0, in normal form: it begins
+/// with its arc of least number. One pass finds the first closed part that sums below 0 once the
+/// closed parts before it are dropped; one more turns it.
+pub fn negative_cycle<A: ArcList>(
+    alloc: Global,
+    arcs: &A,
+    closed: &[u32],
+) -> Result<Vec<u32>, OutOfMemory>
+    requires { walks.IsNegativeClosed (A.list arcs.now) closed.now }
+    ensures cycle { IfOk result (λ v. walks.IsNegativeCycle (A.list arcs.now) v.items) }
+    ensures normal { IfOk result (λ v. walks.IsNormal v.items) }
+    ensures part { IfOk result (λ v. All (Contains closed.now) v.items) }
+{
+    let cycle = negative_part(alloc, arcs, closed)?;
     let least = place_of_least(cycle.as_slice());
     let turned = turn(alloc, cycle.as_slice(), least)?;
-    Ok(Walk::new(turned))
+    Ok(turned)
 }
 
 /// A negative cycle of arcs of a closed walk whose weight is below 0.
-fn negative_part(alloc: Global, net: &Network, arcs: &[u32]) -> Result<Vec<u32>, OutOfMemory>
-    requires { walks.IsNegativeClosed (arcs_of net.now) arcs.now }
-    ensures cycle { IfOk result (λ v. walks.IsNegativeCycle (arcs_of net.now) v.items) }
-    ensures part { IfOk result (λ v. All (Contains arcs.now) v.items) }
+fn negative_part<A: ArcList>(
+    alloc: Global,
+    arcs: &A,
+    closed: &[u32],
+) -> Result<Vec<u32>, OutOfMemory>
+    requires { walks.IsNegativeClosed (A.list arcs.now) closed.now }
+    ensures cycle { IfOk result (λ v. walks.IsNegativeCycle (A.list arcs.now) v.items) }
+    ensures part { IfOk result (λ v. All (Contains closed.now) v.items) }
 {
-    let start = net.arc(arcs[0]).from.0;
-    let mut path = Path::start(alloc, net.points(), start)?;
-    for n in arcs {
-        if let Some(closed) = path.go_on_or_close(alloc, net, *n)? {
-            return Ok(closed);
+    let start = arcs.arc_at(closed[0]).from.0;
+    let mut path = Path::start(alloc, arcs.point_count(), start)?;
+    for n in closed {
+        if let Some(part) = path.go_on_or_close(alloc, arcs, *n)? {
+            return Ok(part);
         }
     }
     unreachable!()

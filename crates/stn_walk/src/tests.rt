@@ -1,9 +1,9 @@
 //! Walks of one small network, each with its weight, and what is left of it when it is pruned.
-use crate::{Walk, is_negative_cycle, prune, prune_cycle, weight};
+use crate::{ArcList, Walk, is_negative_cycle, negative_cycle, prune, prune_cycle, weight};
 use std::alloc::Global;
 use std::process::Abort;
 use std::test::Fail;
-use stn_model::{AgentId, Lean, Network, PointId};
+use stn_model::{AgentId, Constraint, Lean, Network, PointId};
 
 /// Ann hands over to Bob. Points: a1 is 1, a2 is 2, b1 is 3, b2 is 4. Arcs: 8 is z a1 20, 9 is a1 a2 40,
 /// 10 is a2 a1 -30, 11 is a2 b1 5, 12 is b1 a2 0, 13 is b1 b2 20, 14 is b2 b1 -10.
@@ -146,5 +146,48 @@ fn walks_are_pruned(rt: HostRuntime) -> Result<(), Fail> {
         let left = prune(alloc, &net, &walk, PointId(from), PointId(to))?;
         assert_eq!(rt; left.arcs(), want, "{arcs:?}");
     }
+    Ok(())
+}
+
+/// Two points, an arc from 0 to 1 and one back.
+#[derive(Clone, Copy)]
+struct Pair {
+    there: i32,
+    back: i32,
+}
+
+impl ArcList for Pair {
+    ghost use Rattle.std.specs.Prelude.{[], ◌∷◌};
+
+    ghost list = { λ p. record { from = record { 0 = 0 }; to = record { 0 = 1 }; bound = p.there } ∷ record { from = record { 0 = 1 }; to = record { 0 = 0 }; bound = p.back } ∷ [] };
+
+    ghost points = { λ _. 2 };
+
+    fn point_count(&self) -> u32 {
+        2
+    }
+
+    fn arc_at(&self, n: u32) -> Constraint {
+        if n == 0 {
+            Constraint {
+                from: PointId(0),
+                to: PointId(1),
+                bound: self.there as i64,
+            }
+        } else {
+            Constraint {
+                from: PointId(1),
+                to: PointId(0),
+                bound: self.back as i64,
+            }
+        }
+    }
+}
+
+#[test]
+fn other_lists_are_pruned(rt: HostRuntime) -> Result<(), Fail> {
+    let pair = Pair { there: 5, back: -7 };
+    let cycle = negative_cycle(rt.alloc(), &pair, [1, 0, 1, 0].as_slice())?;
+    assert_eq!(rt; cycle.as_slice(), [0, 1].as_slice());
     Ok(())
 }

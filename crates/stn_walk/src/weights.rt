@@ -4,6 +4,7 @@ ghost use Rattle.stn_model.specs.Net.{arcs_of};
 ghost use Rattle.stn_model.specs.Walks as walks;
 ghost use Rattle.stn_walk.specs.Parts.{AreInRange};
 
+use crate::arc_list::ArcList;
 use crate::walk::Walk;
 use stn_model::{Network, PointId};
 
@@ -36,16 +37,16 @@ fn weight_of(net: &Network, arcs: &[u32], from: PointId, to: PointId) -> Option<
     if at == to.0 { Some(sum) } else { None }
 }
 
-/// The sum of the bounds of these arcs, which need be no walk.
-pub(crate) fn sum_of(net: &Network, arcs: &[u32]) -> i128
-    requires { AreInRange net.now arcs.now }
-    ensures sum { result ≡ walks.weight (arcs_of net.now) arcs.now }
-    ensures low { neg_ℤ (pos (1099511627776 * length arcs.now)) ≤ℤ result }
-    ensures high { result ≤ℤ pos (1099511627776 * length arcs.now) }
+/// The sum of the bounds of the arcs of these numbers, which need be no walk.
+pub(crate) fn sum_of<A: ArcList>(arcs: &A, numbers: &[u32]) -> i128
+    requires { AreInRange (A.list arcs.now) numbers.now }
+    ensures sum { result ≡ walks.weight (A.list arcs.now) numbers.now }
+    ensures low { neg_ℤ (pos (1099511627776 * length numbers.now)) ≤ℤ result }
+    ensures high { result ≤ℤ pos (1099511627776 * length numbers.now) }
 {
     let mut sum = 0i128;
-    for n in arcs {
-        sum += net.arc(*n).bound as i128;
+    for n in numbers {
+        sum += arcs.arc_at(*n).bound as i128;
     }
     sum
 }

@@ -1,4 +1,4 @@
-use Rattle.std.proofs.Common.{◌≡◌, ℕ, ◌≤◌, ◌&&◌}
+use Rattle.std.proofs.Common.{◌≡◌, ◌≤◌, ◌&&◌}
 use Rattle.elim_step.specs.Eliminates.{remains, count_below}
 use Rattle.elim_step.specs.JoinedPlaces.{is_joined}
 use Rattle.elim_step.proofs.joins.Joins.count.Given as goal

@@ -1,4 +1,4 @@
-use Rattle.std.proofs.Common.{◌≡◌, ℕ, ◌&&◌, ◌||◌, not, ◌==◌, ap, ◌∙◌, arith, rules, take, get_or, ◌+◌}
+use Rattle.std.proofs.Common.{◌≡◌, ◌&&◌, ◌||◌, not, ◌==◌, ap, ◌∙◌, rules, take, get_or}
 use Rattle.std.proofs.lemmas.List.{take_all}
 use Rattle.elim_step.specs.Blocks.{is_in}
 use Rattle.elim_step.specs.JoinedPlaces.{is_joined}

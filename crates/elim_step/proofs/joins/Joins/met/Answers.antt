@@ -1,8 +1,6 @@
-use Rattle.std.proofs.Common.{ℕ, ◌<◌, ◌&&◌, List, sym, ◌++◌, [], ◌∷◌, ◌≡◌, Bool}
+use Rattle.std.proofs.Common.{ℕ, ◌&&◌, sym, ◌++◌, [], ◌∷◌, ◌≡◌, Bool}
 use Rattle.std.specs.Prelude.{if◌then◌else◌}
-use Rattle.std.specs.List.{AllPairs}
 use Rattle.elim_step.specs.Eliminates.{remains}
-use Rattle.elim_step.specs.Blocks.{IsBlock}
 use Rattle.elim_step.specs.JoinedPlaces.{is_joined}
 use Rattle.elim_step.proofs.JoinWrites.{rising-more, block-next}
 use Rattle.elim_step.proofs.joins.Joins.met.Goals as goal

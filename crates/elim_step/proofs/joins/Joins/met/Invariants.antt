@@ -1,4 +1,4 @@
-use Rattle.std.proofs.Common.{ℕ, ◌<◌, ◌&&◌}
+use Rattle.std.proofs.Common.{◌<◌, ◌&&◌}
 use Rattle.std.specs.List.{AllPairs}
 use Rattle.elim_step.specs.Eliminates.{remains}
 use Rattle.elim_step.specs.Blocks.{IsBlock}
