@@ -2,6 +2,7 @@ pub mod Locals
 pub mod Views
 pub mod Origins
 pub mod Taken
+pub mod Degrees
 pub mod Underway
 pub mod Picked
 pub mod ReducedViews
