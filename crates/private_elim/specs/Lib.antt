@@ -4,3 +4,4 @@ pub mod Origins
 pub mod Taken
 pub mod Picked
 pub mod Underway
+pub mod Unfolds

@@ -3,5 +3,6 @@
 
 mod elimination;
 pub mod local;
+mod unfold;
 
 pub use local::{Local, LocalArc};
