@@ -1,5 +1,6 @@
--- Unfolding the origins of cells: a stack with one part more, sizes of sums, and one step: starts, own_ahead, step, falls, ends.
-use Rattle.std.proofs.Common.{◌≡◌, ℕ, ◌+◌, ◌*◌, ◌^◌, ◌<◌, ◌≤◌, zero, suc, List, [], ◌∷◌, ◌++◌, Bool, true, false, Option, Some, None, length, map, reverse, ◌≢◌, ap, sym, ◌∙◌, refl, subst, arith, ◌⊎◌, inl, inr}
+-- Walks unfolded out of the origins of cells: what is true at the beginning, that the next part can be unfolded, that a step keeps what is
+-- true, and that it makes the parts ahead smaller: power-sum, starts, begins, own_ahead, step, falls.
+use Rattle.std.proofs.Common.{◌≡◌, ℕ, ◌+◌, ◌*◌, ◌^◌, ◌<◌, ◌≤◌, zero, suc, List, [], ◌∷◌, ◌++◌, true, Option, Some, None, length, reverse, ◌≢◌, ap, sym, ◌∙◌, refl, subst, arith, ◌⊎◌, inl, inr}
 use Rattle.std.specs.Prelude.{ℤ, pos, ◌+ℤ◌, is_some, IfSome}
 use Rattle.std.specs.List.{AllByRecursion}
 use Rattle.std.proofs.lemmas.Int.{ints}
@@ -8,7 +9,7 @@ use Rattle.std.proofs.lemmas.Nat.{pow_pos}
 use Rattle.std.proofs.Math.Pow.{pow_mono}
 use Rattle.std.proofs.Math.Nat.{pow-suc}
 use Rattle.stn_model.specs.declared.ids.Constraint.{Constraint}
-use Rattle.stn_model.specs.Arcs.{from_at, to_at, bound_at}
+use Rattle.stn_model.specs.Arcs.{to_at, bound_at}
 use Rattle.stn_model.specs.Walks.{IsWalk, weight, heads}
 use Rattle.stn_model.proofs.WalkLemmas.{IsWalk-append, weight-append}
 use Rattle.stn_walk.specs.Eliminations.{is_in}
@@ -212,14 +213,6 @@ module _ (points : List ℕ) (arcs : List Constraint) (es : List ℕ) (at : ℕ 
         let c = some-of (at part.from part.to) here.there in
         falls-by walk walk' ahead ahead' part c.0 c.0.via c.1 refl (origin-of part.from part.to c.0 c.1)
         (subst (λ (o : Option Cell). IfSome o (λ c. Unfolds part c.via walk walk' ahead ahead')) c.1 u)
-
-  module _ (i j : ℕ) (cell : Option Cell) (walk : List ℕ) (h : IsUnfolding points arcs es at i j cell walk []) where
-    -- with nothing ahead, the walk is whole
-    pub walk_whole : IsWalk arcs i j walk
-    walk_whole = subst (λ (m : ℕ). IsWalk arcs i m walk) h.leads h.walks
-
-    pub weight_whole : Some (weight arcs walk) ≡ weight_at cell
-    weight_whole = let same : weight arcs walk ≡ weight arcs walk +ℤ pos 0 = omega (arith, ints) in ap Some same ∙ h.weighs
 
 -- where a cell's weight is there, the cell is
 cell-there : (x : Option Cell) (w : Option ℤ) → weight_at x ≡ w → is_some w ≡ true → is_some x ≡ true

@@ -1,12 +1,9 @@
-use Rattle.std.proofs.Common.{◌≡◌, ◌<◌, List, length, map, reverse, [], ◌∷◌, ◌++◌, true, is_some, IfSome, sym, subst, ◌∙◌, arith}
-use Rattle.std.proofs.lemmas.List.{append-nil}
+use Rattle.std.proofs.Common.{reverse}
 use Rattle.dist_rows.specs.Matrix.{cell_at}
-use Rattle.elim_step.specs.Eliminated.{forward_of, point_at}
+use Rattle.elim_step.specs.Eliminated.{point_at}
 use Rattle.private_elim.specs.Locals.{arcs_in}
 use Rattle.private_elim.specs.Underway.{taken_view}
-use Rattle.private_elim.specs.Unfolds.{Unfolds, IsUnfolding, parts_size}
-use Rattle.private_elim.specs.declared.unfold.Part.{Part}
-use Rattle.private_elim.proofs.Unfolding.{begins, own_ahead, step, falls, walk_whole, weight_whole}
+use Rattle.private_elim.proofs.Unfolding.{begins, own_ahead, step, falls}
 use Rattle.private_elim.proofs.elimination.Elimination.unfold.Goals as goal
 
 pub loop-part-init : goal.loop-part-init
