@@ -6,3 +6,5 @@ pub mod OwnArcs
 pub mod Parts
 pub mod LocalFacts
 pub mod Windows
+pub mod Unfolding
+pub mod OriginFacts

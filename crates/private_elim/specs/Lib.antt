@@ -11,3 +11,4 @@ pub mod Reductions
 pub mod Backs
 pub mod Held
 pub mod Laws
+pub mod Unfolds

@@ -21,13 +21,13 @@ use stn_model::{OutOfMemory, PointId};
 /// A local problem of which some private points are taken, with what is left between the others.
 #[derive(Drop)]
 pub struct Elimination {
-    local: Local,
-    rows: MatrixRows,
-    joins: Joins,
-    remain: Vec<bool>,
+    pub(crate) local: Local,
+    pub(crate) rows: MatrixRows,
+    pub(crate) joins: Joins,
+    pub(crate) remain: Vec<bool>,
     /// By place: with how many places that remain this one is joined, where it remains.
-    degrees: Vec<u32>,
-    order: Vec<PointId>,
+    pub(crate) degrees: Vec<u32>,
+    pub(crate) order: Vec<PointId>,
 }
 
 impl Model for Elimination {
@@ -135,20 +135,6 @@ impl Elimination {
             degrees,
             order,
         })
-    }
-
-    /// The arcs of a walk from a place to another, by their numbers in the local problem, through taken points that come before
-    /// both: one of the cell's weight.
-    pub fn unfold(&self, alloc: Global, from: u32, to: u32) -> Result<Vec<u32>, OutOfMemory>
-        requires within { (from < length self.now.local.points) × (to < length self.now.local.points) }
-        requires apart { from ≢ to }
-        requires there { is_some (forward_of (arcs_in self.now.local) (reverse self.now.order) (point_at self.now.local.points from) (point_at self.now.local.points to)) ≡ true }
-        ensures walk { IfOk result (λ ns. walks.IsWalk (arcs_in self.now.local) (point_at self.now.local.points from) (point_at self.now.local.points to) ns.items) }
-        ensures weight { IfOk result (λ ns. Some (walks.weight (arcs_in self.now.local) ns.items)
-            ≡ forward_of (arcs_in self.now.local) (reverse self.now.order) (point_at self.now.local.points from) (point_at self.now.local.points to)) }
-        ensures through { IfOk result (λ ns. AllByRecursion (λ p. (is_in (reverse self.now.order) p ≡ true) ⊎ (p ≡ point_at self.now.local.points to)) (walks.heads (arcs_in self.now.local) ns.items)) }
-    {
-        unreachable!()
     }
 }
 

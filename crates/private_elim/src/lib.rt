@@ -10,6 +10,7 @@ pub mod local;
 pub mod outcome;
 pub mod reduced;
 mod summarise;
+mod unfold;
 
 pub use back::{PrivateBounds, back_sweep};
 pub use eliminate::{eliminate_listed, eliminate_private};
