@@ -8,3 +8,4 @@ pub mod LocalFacts
 pub mod Windows
 pub mod Unfolding
 pub mod OriginFacts
+pub mod Takes
