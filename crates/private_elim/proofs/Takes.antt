@@ -29,18 +29,20 @@ use Rattle.private_elim.proofs.LocalFacts.{rises, points_small, arc_joins, place
 use Rattle.private_elim.proofs.Places.{place_contained, place_found}
 use Rattle.private_elim.proofs.OriginFacts.{origins_kept}
 
+-- a number is below another, or is it, or is above
+order_of : (a b : ℕ) → (a < b) ⊎ ((a ≡ b) ⊎ (b < a))
+order_of zero zero = inr (inl refl)
+order_of zero (suc b) = inl (omega arith)
+order_of (suc a) zero = inr (inr (omega arith))
+order_of (suc a) (suc b) = elim (order_of a b) [ inl l ↦ inl (omega arith) | inr r ↦ elim r [ inl e ↦ inr (inl (ap suc e)) | inr m ↦ inr (inr (omega arith)) ] ]
+
 -- two places with the same point are one
 rising_apart : (points : List ℕ) → ((i j : ℕ) → i < j → j < length points → point_at points i < point_at points j) → (i j : ℕ) → i < length points → j < length points
     → point_at points i ≡ point_at points j → i ≡ j
-rising_apart points rise i j li lj e = elim (order i j) [
+rising_apart points rise i j li lj e = elim (order_of i j) [
   | inl less ↦ absurd (let r = rise i j less lj in omega arith)
   | inr rest ↦ elim rest [ inl same ↦ same | inr more ↦ absurd (let r = rise j i more li in omega arith) ]
-] where
-  order : (a b : ℕ) → (a < b) ⊎ ((a ≡ b) ⊎ (b < a))
-  order zero zero = inr (inl refl)
-  order zero (suc b) = inl (omega arith)
-  order (suc a) zero = inr (inr (omega arith))
-  order (suc a) (suc b) = elim (order a b) [ inl l ↦ inl (omega arith) | inr r ↦ elim r [ inl e ↦ inr (inl (ap suc e)) | inr m ↦ inr (inr (omega arith)) ] ]
+]
 
 -- the arcs of a local problem join its points, and weigh little
 pub local_ground : (v : LocalView) → IsLocal v → IsGround v.points (arcs_in v)
@@ -172,9 +174,10 @@ module _ (v : LocalView) (order : List ℕ) (at : ℕ → ℕ → Option Cell) (
     other_left = turned (is_in (reverse order) (point_at v.points other)) (sym (h.cells.remaining other other_within) ∙ parts.0)
 
     other_apart : other ≢ k
-    other_apart e = let n : is_negative (at k k) (at k k) ≡ true = subst (λ m. is_negative (at k m) (at m k) ≡ true) e parts.1 in
-    let f : is_negative (at k k) (at k k) ≡ false = rw none refl in
-    absurd (cc)
+    other_apart e =
+        let n : is_negative (at k k) (at k k) ≡ true = subst (λ m. is_negative (at k m) (at m k) ≡ true) e parts.1 in
+        let f : is_negative (at k k) (at k k) ≡ false = rw none refl in
+        absurd (cc)
 
     points_apart : (m : ℕ) → m < length v.points → m ≢ k → point_at v.points m ≢ point_at v.points k
     points_apart m lm ne e = ne ((local_ground v h.known).apart m k lm lk e)
@@ -190,8 +193,8 @@ module _ (v : LocalView) (order : List ℕ) (at : ℕ → ℕ → Option Cell) (
           left = other_left;
           out = b.first.weight;
           back = b.second.weight;
-          is_out = record { sound = within; least = rw (sym (ap weight_at b.is_first)) (open_weight k other lk other_within (λ e. other_apart (sym e)) fresh other_left) };
-          is_back = record { sound = within; least = rw (sym (ap weight_at b.is_second)) (open_weight other k other_within lk other_apart other_left fresh) };
+          is_out = record { sound = within; least = subst (IsInnerLeast (is_in (reverse order)) (arcs_in v) (point_at v.points k) (point_at v.points other)) (ap weight_at b.is_first) (open_weight k other lk other_within (λ e. other_apart (sym e)) fresh other_left) };
+          is_back = record { sound = within; least = subst (IsInnerLeast (is_in (reverse order)) (arcs_in v) (point_at v.points other) (point_at v.points k)) (ap weight_at b.is_second) (open_weight other k other_within lk other_apart other_left fresh) };
           below = b.below;
         }
 
@@ -225,12 +228,6 @@ module _ (v : LocalView) (order : List ℕ) (at : ℕ → ℕ → Option Cell) (
 
             low_sum : (a b : ℤ) → (a +ℤ b) <ℤ pos 0 → sums_below (Some a) (Some b) ≡ true
             low_sum a b g = grind (arith, ints)
-
-            order_of : (a b : ℕ) → (a < b) ⊎ ((a ≡ b) ⊎ (b < a))
-            order_of zero zero = inr (inl refl)
-            order_of zero (suc b) = inl (omega arith)
-            order_of (suc a) zero = inr (inr (omega arith))
-            order_of (suc a) (suc b) = elim (order_of a b) [ inl l ↦ inl (omega arith) | inr r ↦ elim r [ inl e ↦ inr (inl (ap suc e)) | inr m ↦ inr (inr (omega arith)) ] ]
 
     pub stops_at : (other < length v.points) × StopsAt v (reverse order) (point_at v.points k) (point_at v.points other)
     stops_at = (other_within, record { fails = fails; least = least_fails; before = none_fails v (reverse order) h.cells.none_below })
