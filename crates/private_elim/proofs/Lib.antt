@@ -8,4 +8,5 @@ pub mod LocalFacts
 pub mod Windows
 pub mod Unfolding
 pub mod OriginFacts
+pub mod Counts
 pub mod Takes

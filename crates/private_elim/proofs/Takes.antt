@@ -1,6 +1,6 @@
 -- Taking one private point: what is known stays known, and a point that fails does so as the definition says.
 use Rattle.std.proofs.Common.{zero, suc, ◌≡◌, ◌≢◌, ℕ, ◌<◌, ◌≤◌, List, [], ◌∷◌, ◌++◌, Bool, true, false, ◌&&◌, ◌||◌, not, Option, Some, None, ap, sym, ◌∙◌, refl, arith, subst, length, get_or, set, inl, inr, ◌⊎◌}
-use Rattle.std.specs.Prelude.{ℤ, pos, neg_ℤ, ◌+ℤ◌, ◌≤ℤ◌, ◌<ℤ◌, ◌==◌, if◌then◌else◌, is_some, reverse, Contains, ⊤}
+use Rattle.std.specs.Prelude.{ℤ, pos, neg_ℤ, ◌+ℤ◌, ◌≤ℤ◌, ◌<ℤ◌, ◌==◌, if◌then◌else◌, is_some, reverse, Contains, ⊤, IfSome, nat_abs, ◌*◌}
 use Rattle.std.specs.List.{AllByRecursion}
 use Rattle.std.proofs.lemmas.Bool.Decides.{nat_tests}
 use Rattle.std.proofs.lemmas.Int.{ints}
@@ -14,13 +14,14 @@ use Rattle.stn_walk.specs.Joins.{joined_of}
 use Rattle.stn_walk.proofs.ArcWalks.{arcs_weight-append}
 use Rattle.stn_walk.proofs.Visits.{inner_joined, inner_wider, at_point}
 use Rattle.stn_walk.proofs.Eliminations.{cell-least}
+use Rattle.stn_walk.proofs.LightWalks.{IsBelow, HasBounds, least_light}
 use Rattle.stn_walk.proofs.Different.{AllDifferent-push}
-use Rattle.stn_walk.proofs.Joins.{is_in-reverse}
+use Rattle.stn_walk.proofs.Joins.{is_in-reverse, joined-symmetric}
 use Rattle.dist_rows.specs.declared.cell.Cell.{Cell}
 use Rattle.elim_step.specs.Eliminates.{remains, is_below, is_negative, eliminated}
 use Rattle.elim_step.specs.Eliminated.{IsGround, IsEliminated, IsListed, weight_at, point_at}
-use Rattle.elim_step.proofs.Weights.{before-whole, forward-whole, sums_below, negative-is}
-use Rattle.elim_step.proofs.Sound.{eliminates_more}
+use Rattle.elim_step.proofs.Weights.{before-whole, before-in, forward-whole, sums_below, negative-is}
+use Rattle.elim_step.proofs.Sound.{eliminates_more, inner_in}
 use Rattle.elim_step.proofs.JoinFacts.{joined-after}
 use Rattle.private_elim.specs.Locals.{LocalView, IsLocal, arcs_in, is_private_in, is_point_of, place_in}
 use Rattle.private_elim.specs.Origins.{HasOrigins}
@@ -234,3 +235,46 @@ module _ (v : LocalView) (order : List ℕ) (at : ℕ → ℕ → Option Cell) (
 
 pub facts : (v : LocalView) (order : List ℕ) (at : ℕ → ℕ → Option Cell) (joined : ℕ → ℕ → Bool) (remain : List Bool) → IsTaken v order at joined remain → HasTaken (record { local = v; order = order })
 facts v order at joined remain h = record { known = h.known; numbered = h.numbered; private = h.private; once = h.once; none_below = h.cells.none_below }
+
+-- joined places are joined in the other direction too
+pub joined_back : (v : LocalView) (order : List ℕ) (at : ℕ → ℕ → Option Cell) (joined : ℕ → ℕ → Bool) (remain : List Bool) → IsTaken v order at joined remain
+    → ((p q : ℕ) → joined p q ≡ true → (p < length v.points) × (q < length v.points)) → (p q : ℕ) → joined p q ≡ true → joined q p ≡ true
+joined_back v order at joined remain h within p q there =
+    let w = within p q there in
+    let apart : p ≢ q = λ e. (let n = h.alone p in let here : joined p p ≡ true = ap (joined p) e ∙ there in cc) in
+    let x = point_at v.points p in
+    let y = point_at v.points q in
+    h.joins q p w.1 w.0 (λ e. apart (sym e))
+    ∙ ap (λ xs. joined_of (arcs_in v) xs y x) (before_turned (reverse order) y x)
+    ∙ joined-symmetric (arcs_in v) (before_both (reverse order) x y) y x
+    ∙ sym (h.joins p q w.0 w.1 apart) ∙ there where
+      or_turned : (a b : Bool) → (a || b) ≡ (b || a)
+      or_turned true true = refl
+      or_turned true false = refl
+      or_turned false true = refl
+      or_turned false false = refl
+
+      before_turned : (es : List ℕ) (i j : ℕ) → before_both es i j ≡ before_both es j i
+      before_turned [] i j = refl
+      before_turned (k ∷ es) i j = (λ t. if or_turned (is_in (k ∷ es) i) (is_in (k ∷ es) j) t then before_turned es i j t else k ∷ es)
+
+-- weights are at most 2^52: a walk that leaves no point twice has at most 4096 arcs, of at most 2^40 each
+pub weights_small : (v : LocalView) (order : List ℕ) (at : ℕ → ℕ → Option Cell) (joined : ℕ → ℕ → Bool) (remain : List Bool) → IsTaken v order at joined remain
+    → (p q : ℕ) → p < length v.points → q < length v.points → p ≢ q → IfSome (weight_at (at p q)) (λ w. (neg_ℤ (pos 4503599627370496) ≤ℤ w) × (w ≤ℤ pos 4503599627370496))
+unfolding IsBelow HasBounds
+weights_small v order at joined remain h p q lp lq apart =
+    let x = point_at v.points p in
+    let y = point_at v.points q in
+    let es = before_both (reverse order) x y in
+    let none_below : NoNegative (is_in es) (arcs_in v) = λ z w g. h.cells.none_below z w (inner_in (is_in es) (is_in (reverse order)) (arcs_in v) z z w (before-in (reverse order) x y) g) in
+    let light = least_light (is_in es) (arcs_in v) 4096 1099511627776 x y (cell_of (arcs_in v) es x y) below bounds none_below (cell-least (arcs_in v) es none_below x y) in
+    rw (h.cells.cells p q lp lq apart) (both_ways (cell_of (arcs_in v) es x y) light) where
+      below : IsBelow 4096 (arcs_in v)
+      below = λ a here. let l = place_contained v.points a.from.0 (arc_joins v h.known a here).starts in let low = points_small v h.known l.0 0 l.1 in let e = l.2 in omega arith
+
+      bounds : HasBounds 1099511627776 (arcs_in v)
+      bounds = λ a here. let j = arc_joins v h.known a here in (j.low, j.high)
+
+      both_ways : (o : Option ℤ) → IfSome o (λ b. nat_abs b ≤ 4096 * 1099511627776) → IfSome o (λ w. (neg_ℤ (pos 4503599627370496) ≤ℤ w) × (w ≤ℤ pos 4503599627370496))
+      both_ways None g = tt
+      both_ways (Some b) g = (omega (arith, ints), omega (arith, ints))
