@@ -10,3 +10,4 @@ pub mod Unfolding
 pub mod OriginFacts
 pub mod Counts
 pub mod Takes
+pub mod Laying

@@ -137,7 +137,7 @@ both : (a b : Bool) → (a && b) ≡ true → (a ≡ true) × (b ≡ true)
 both true b h = (refl, h)
 both false b h = absurd (cc)
 
-in_list : (xs : List Bool) (p : ℕ) → get_or xs p false ≡ true → p < length xs
+pub in_list : (xs : List Bool) (p : ℕ) → get_or xs p false ≡ true → p < length xs
 in_list [] p h = absurd (cc)
 in_list (x ∷ xs) zero h = omega arith
 in_list (x ∷ xs) (suc p) h = let l = in_list xs p h in omega arith

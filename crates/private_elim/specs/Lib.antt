@@ -12,3 +12,4 @@ pub mod Backs
 pub mod Held
 pub mod Laws
 pub mod Unfolds
+pub mod Laid

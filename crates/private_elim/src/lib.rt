@@ -9,6 +9,7 @@ pub mod laws;
 pub mod local;
 pub mod outcome;
 pub mod reduced;
+mod start;
 mod summarise;
 mod unfold;
 
