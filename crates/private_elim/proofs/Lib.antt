@@ -6,3 +6,6 @@ pub mod OwnArcs
 pub mod Parts
 pub mod LocalFacts
 pub mod Windows
+pub mod NoConflicts
+pub mod NumberedWalks
+pub mod Failing

@@ -1,6 +1,7 @@
 //! An agent's own part of a network, and what is left of it for others once its private points are eliminated.
 #![tactic(auto)]
 
+mod arc_list;
 pub mod back;
 mod conflict;
 pub mod eliminate;
