@@ -6,6 +6,9 @@ pub mod OwnArcs
 pub mod Parts
 pub mod LocalFacts
 pub mod Windows
+pub mod Unfolding
+pub mod OriginFacts
 pub mod NoConflicts
 pub mod NumberedWalks
 pub mod Failing
+pub mod FailingCycles

@@ -1,12 +1,8 @@
--- The numbers in the network that arcs of a local problem have: number_in, AreNumbers.
-use Rattle.std.specs.Prelude.{◌≡◌, ℕ, List, map, Option, Some}
-use Rattle.private_elim.specs.declared.local.LocalArc.{LocalArc}
-use Rattle.private_elim.specs.Locals.{local_arc_at}
+-- The numbers in the network of arcs of a local problem: number_in.
+use Rattle.std.specs.Prelude.{ℕ}
+use Rattle.std.specs.Option.{unwrap_or}
+use Rattle.private_elim.specs.Locals.{LocalView, local_arc_at}
 
--- the number of the arc at a place, where it has one
-abbrev pub number_in : List LocalArc → ℕ → Option ℕ
-number_in arcs k = (local_arc_at arcs k).number
-
--- the arcs at these places all have numbers, and those are theirs
-abbrev pub AreNumbers : List LocalArc → List ℕ → List ℕ → Type 0
-AreNumbers arcs places numbers = map (number_in arcs) places ≡ map (λ n. Some n) numbers
+-- the number of the arc at a place; 0 where it has none
+abbrev pub number_in : LocalView → ℕ → ℕ
+number_in v k = unwrap_or (local_arc_at v.arcs k).number 0

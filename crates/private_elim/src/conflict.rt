@@ -7,8 +7,8 @@ ghost use Rattle.private_elim.specs.Locals.{is_private_in};
 ghost use Rattle.private_elim.specs.Taken.{Fails};
 ghost use Rattle.private_elim.specs.Reductions.{OfNetwork};
 
-use crate::arc_list::numbers_of;
 use crate::elimination::Elimination;
+use crate::numbers::numbers_of;
 use std::alloc::Global;
 use stn_model::OutOfMemory;
 use stn_walk::{Walk, negative_cycle};

@@ -8,9 +8,11 @@ pub mod eliminate;
 mod elimination;
 pub mod laws;
 pub mod local;
+mod numbers;
 pub mod outcome;
 pub mod reduced;
 mod summarise;
+mod unfold;
 
 pub use back::{PrivateBounds, back_sweep};
 pub use eliminate::{eliminate_listed, eliminate_private};
