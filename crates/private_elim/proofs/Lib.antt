@@ -8,6 +8,7 @@ pub mod LocalFacts
 pub mod Windows
 pub mod Unfolding
 pub mod OriginFacts
+pub mod Within
 pub mod NoConflicts
 pub mod NumberedWalks
 pub mod Failing
