@@ -9,6 +9,7 @@ pub mod Windows
 pub mod Unfolding
 pub mod OriginFacts
 pub mod Within
+pub mod ButOne
 pub mod NoConflicts
 pub mod NumberedWalks
 pub mod Failing
