@@ -11,3 +11,9 @@ pub mod OriginFacts
 pub mod Counts
 pub mod Takes
 pub mod Laying
+pub mod Within
+pub mod ButOne
+pub mod NoConflicts
+pub mod NumberedWalks
+pub mod Failing
+pub mod FailingCycles

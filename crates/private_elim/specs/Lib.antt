@@ -13,3 +13,4 @@ pub mod Held
 pub mod Laws
 pub mod Unfolds
 pub mod Laid
+pub mod Numbers

@@ -1,12 +1,14 @@
 //! An agent's own part of a network, and what is left of it for others once its private points are eliminated.
 #![tactic(auto)]
 
+mod arc_list;
 pub mod back;
 mod conflict;
 pub mod eliminate;
 mod elimination;
 pub mod laws;
 pub mod local;
+mod numbers;
 pub mod outcome;
 pub mod reduced;
 mod start;
