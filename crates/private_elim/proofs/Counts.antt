@@ -40,7 +40,7 @@ count-same f g (suc n) e = let here = e n (omega arith) in let rest = count-same
 
 -- the degrees of the places that remain, once k is taken and those that were joined with it are counted anew
 pub degrees_after : (size : ℕ) (remain : List Bool) (k : ℕ) (f g : ℕ → ℕ → Bool) (met : List ℕ) (old new : ℕ → ℕ) → k < length remain
-    → ((p : ℕ) → is_in p met ≡ (remains remain p && f k p)) → ((p q : ℕ) → f p q ≡ true → f q p ≡ true) 
+    → ((p : ℕ) → is_in p met ≡ (remains remain p && f k p)) → ((p q : ℕ) → f p q ≡ true → f q p ≡ true)
     → ((p q : ℕ) → g p q ≡ (f p q || (not (p == q) && (remains remain p && f k p) && (remains remain q && f k q))))
     → ((p : ℕ) → remains remain p ≡ true → old p ≡ count_below (λ q. remains remain q && f p q) size)
     → ((p : ℕ) → new p ≡ (if is_in p met then count_below (λ q. remains (set remain k false) q && g p q) size else old p))

@@ -222,7 +222,7 @@ module _ (v : LocalView) (h : IsLocal v) (n : ℕ) (lt : n < length v.arcs) (at 
   laid_origins p q =
       let c : Cell = record { weight = (local_arc_at v.arcs n).arc.bound; via = Given n } in
       rw (arc.cells p q) (elim ((p == arc.start) && (q == arc.end)) as (λ b. ((p == arc.start) && (q == arc.end)) ≡ b
-          → IfSome (if b then cells.lesser (at arc.start arc.end) c else at p q) (λ c. (m : ℕ) × (c.via ≡ Given m) × IsArcOf v.points (arcs_in v) p q c m)) [
+      → IfSome (if b then cells.lesser (at arc.start arc.end) c else at p q) (λ c. (m : ℕ) × (c.via ≡ Given m) × IsArcOf v.points (arcs_in v) p q c m)) [
         | true ↦ λ t.
             let b = both-true (p == arc.start) (q == arc.end) t in
             let ep : p ≡ arc.start = (let e = b.0 in grind (arith, nat_tests)) in

@@ -17,3 +17,6 @@ pub mod NoConflicts
 pub mod NumberedWalks
 pub mod Failing
 pub mod FailingCycles
+pub mod DegreeFacts
+
+pub mod CandidateFacts

@@ -23,7 +23,7 @@ use Rattle.elim_step.specs.Eliminated.{IsGround, IsEliminated, IsListed, weight_
 use Rattle.elim_step.proofs.Weights.{before-whole, before-in, forward-whole, sums_below, negative-is}
 use Rattle.elim_step.proofs.Sound.{eliminates_more, inner_in}
 use Rattle.elim_step.proofs.JoinFacts.{joined-after}
-use Rattle.private_elim.specs.Locals.{LocalView, IsLocal, arcs_in, is_private_in, is_point_of, place_in}
+use Rattle.private_elim.specs.Locals.{LocalView, IsLocal, arcs_in, is_private_in, is_point_of, place_in, private_at, passes_at}
 use Rattle.private_elim.specs.Origins.{HasOrigins}
 use Rattle.private_elim.specs.Taken.{IsTaken, Fails, StopsAt, NoneFails, HasTaken}
 use Rattle.private_elim.proofs.LocalFacts.{rises, points_small, arc_joins, place_of_point_at}
@@ -60,7 +60,7 @@ AllByRecursion-push : {X : Type 0} (P : X → Type 0) (xs : List X) (x : X) → 
 AllByRecursion-push P [] x h p = (p, tt)
 AllByRecursion-push P (y ∷ ys) x h p = (h.0, AllByRecursion-push P ys x h.1 p)
 
-in_at : (xs : List ℕ) (k : ℕ) → k < length xs → is_in xs (get_or xs k 0) ≡ true
+pub in_at : (xs : List ℕ) (k : ℕ) → k < length xs → is_in xs (get_or xs k 0) ≡ true
 in_at [] k lt = absurd (omega arith)
 in_at (x ∷ xs) zero lt = let same : (x == x) ≡ true = grind (arith, nat_tests) in ap (λ b. is_in xs x || b) same ∙ or_true (is_in xs x) where
   or_true : (b : Bool) → (b || true) ≡ true
@@ -278,3 +278,7 @@ weights_small v order at joined remain h p q lp lq apart =
       both_ways : (o : Option ℤ) → IfSome o (λ b. nat_abs b ≤ 4096 * 1099511627776) → IfSome o (λ w. (neg_ℤ (pos 4503599627370496) ≤ℤ w) × (w ≤ℤ pos 4503599627370496))
       both_ways None g = tt
       both_ways (Some b) g = (omega (arith, ints), omega (arith, ints))
+
+-- whether the point at a place is private
+pub private_at_is : (v : LocalView) → IsLocal v → (k : ℕ) → k < length v.points → is_private_in v (point_at v.points k) ≡ private_at v k
+private_at_is v h k lk = ap (passes_at (private_at v)) (place_of_point_at v h k lk)

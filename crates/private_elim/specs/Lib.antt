@@ -14,3 +14,4 @@ pub mod Laws
 pub mod Unfolds
 pub mod Laid
 pub mod Numbers
+pub mod Candidates

@@ -68,7 +68,12 @@ impl Elimination {
             Found::Clear => {
                 self.joins.join_all(met.as_slice());
                 self.remain[place as usize] = false;
-                recount(&mut self.degrees, &self.joins, self.remain.as_slice(), met.as_slice());
+                recount(
+                    &mut self.degrees,
+                    &self.joins,
+                    self.remain.as_slice(),
+                    met.as_slice(),
+                );
                 self.order.push_reserved(point);
                 Ok(None)
             }

@@ -3,6 +3,7 @@
 
 mod arc_list;
 pub mod back;
+mod candidates;
 mod conflict;
 pub mod eliminate;
 mod elimination;

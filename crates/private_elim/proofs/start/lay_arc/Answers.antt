@@ -28,7 +28,7 @@ lower-requires-clause-room c =
     let size = c.requires.size in
     matrix_room c.args.rows.now.size c.in-Some.from c.in-Some-place_of.to (omega arith) (omega arith)
     (ends_apart v c.size-places.ensures.valid c.args.k c.requires.within c.in-Some.from c.in-Some-place_of.to
-        (rw c.arc.ensures at (sym c.place_of.ensures ∙ c.in-Some.is)) (rw c.arc.ensures at (sym c.place_of-2.ensures ∙ c.in-Some-place_of.is)))
+    (rw c.arc.ensures at (sym c.place_of.ensures ∙ c.in-Some.is)) (rw c.arc.ensures at (sym c.place_of-2.ensures ∙ c.in-Some-place_of.is)))
 
 pub join-requires : goal.join-requires
 join-requires c =
