@@ -102,9 +102,9 @@ module _ (points : List ℕ) (apart : (i j : ℕ) → i < length points → j < 
     by : AllDifferent (points_where points test n) → (b : Bool) → AllDifferent (points_where points test n ++ (if b then point_at points n ∷ [] else []))
     by before true = AllDifferent-push (points_where points test n) (point_at points n) before
         (λ k lk e. let w = where_from n (get_or (points_where points test n) k 0) (in_at (points_where points test n) k lk) in
-            let low = w.low in
-            let same = apart w.place n (omega arith) (omega arith) (w.is ∙ e) in
-            absurd (omega arith))
+        let low = w.low in
+        let same = apart w.place n (omega arith) (omega arith) (w.is ∙ e) in
+        absurd (omega arith))
     by before false = subst AllDifferent (sym (same_append (points_where points test n))) before
 
   where_many : (n : ℕ) → length (points_where points test n) ≡ count_below test n

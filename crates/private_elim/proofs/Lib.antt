@@ -18,5 +18,6 @@ pub mod NumberedWalks
 pub mod Failing
 pub mod FailingCycles
 pub mod DegreeFacts
-
 pub mod CandidateFacts
+
+pub mod Choices

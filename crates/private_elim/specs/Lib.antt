@@ -15,3 +15,4 @@ pub mod Unfolds
 pub mod Laid
 pub mod Numbers
 pub mod Candidates
+pub mod Outcomes
