@@ -4,5 +4,7 @@ pub mod Regions
 pub mod Whole
 pub mod Revisits
 pub mod Finds
+pub mod JoinWrites
 pub mod Weights
 pub mod Sound
+pub mod JoinFacts

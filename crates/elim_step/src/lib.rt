@@ -20,4 +20,6 @@ pub use steps::Steps;
 pub use summary::{Summary, SummaryEntry, Window};
 
 #[cfg(test)]
+mod join_tests;
+#[cfg(test)]
 mod tests;

@@ -16,5 +16,6 @@ pub mod Exits
 pub mod Finals
 pub mod LightWalks
 pub mod NewArcs
+pub mod Joins
 pub mod Potentials
 pub mod Distances
