@@ -6,3 +6,6 @@ pub mod OwnArcs
 pub mod Parts
 pub mod LocalFacts
 pub mod Windows
+pub mod TakenFacts
+pub mod Forwards
+pub mod RowFacts

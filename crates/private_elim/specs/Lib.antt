@@ -10,3 +10,5 @@ pub mod Reductions
 pub mod Backs
 pub mod Held
 pub mod Laws
+pub mod SummaryRows
+pub mod Numbers

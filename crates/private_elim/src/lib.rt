@@ -7,6 +7,7 @@ pub mod eliminate;
 mod elimination;
 pub mod laws;
 pub mod local;
+mod numbers;
 pub mod outcome;
 pub mod reduced;
 mod summarise;
