@@ -9,3 +9,9 @@ pub mod Windows
 pub mod TakenFacts
 pub mod Forwards
 pub mod RowFacts
+pub mod Unfolding
+pub mod OriginFacts
+pub mod NoConflicts
+pub mod NumberedWalks
+pub mod Failing
+pub mod FailingCycles

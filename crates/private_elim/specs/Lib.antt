@@ -2,6 +2,7 @@ pub mod Locals
 pub mod Views
 pub mod Origins
 pub mod Taken
+pub mod Degrees
 pub mod Underway
 pub mod Picked
 pub mod ReducedViews
@@ -11,4 +12,5 @@ pub mod Backs
 pub mod Held
 pub mod Laws
 pub mod SummaryRows
+pub mod Unfolds
 pub mod Numbers

@@ -1,6 +1,7 @@
 //! An agent's own part of a network, and what is left of it for others once its private points are eliminated.
 #![tactic(auto)]
 
+mod arc_list;
 pub mod back;
 mod conflict;
 pub mod eliminate;
@@ -11,6 +12,7 @@ mod numbers;
 pub mod outcome;
 pub mod reduced;
 mod summarise;
+mod unfold;
 
 pub use back::{PrivateBounds, back_sweep};
 pub use eliminate::{eliminate_listed, eliminate_private};
