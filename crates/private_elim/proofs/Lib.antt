@@ -15,3 +15,4 @@ pub mod NoConflicts
 pub mod NumberedWalks
 pub mod Failing
 pub mod FailingCycles
+pub mod SumsUp
