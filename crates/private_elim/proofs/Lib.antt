@@ -16,3 +16,7 @@ pub mod NumberedWalks
 pub mod Failing
 pub mod FailingCycles
 pub mod SumsUp
+pub mod EntryLookups
+pub mod Between
+pub mod Detours
+pub mod ReducedWalks

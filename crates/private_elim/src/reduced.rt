@@ -79,7 +79,22 @@ impl Reduced {
         ensures own { IfOk result (λ w. OfNetwork self.now.local (λ net. AreOwn net self.now.local.agent w)) }
         ensures weight { IfOk result (λ w. OfNetwork self.now.local (λ net. Some (walks.weight (arcs_of net) w) ≡ weight_between self.now i.0 j.0)) }
     {
-        unreachable!()
+        // As in `forward`.
+        let _size = self.part.size();
+        let local = self.part.local();
+        let Some(from) = local.place_of(i) else {
+            unreachable!()
+        };
+        let Some(to) = local.place_of(j) else {
+            unreachable!()
+        };
+        if is_detour(&self.part, from, to) {
+            let numbers = detour(alloc, i, j)?;
+            return Ok(Walk::new(numbers));
+        }
+        let places = self.part.unfold(alloc, from, to)?;
+        let numbers = numbers_of(alloc, local, places.as_slice())?;
+        Ok(Walk::new(numbers))
     }
 
     /// An equal reduced local problem.
