@@ -9,9 +9,9 @@ use Rattle.std.proofs.lemmas.List.Elements.{All-nil, All-head, All-tail, All-pus
 use Rattle.std.proofs.lemmas.List.Quantifiers.{all_pairs_push}
 use Rattle.elim_step.specs.declared.summary.SummaryEntry.{SummaryEntry}
 use Rattle.elim_step.specs.Summaries.{is_valid, is_less, may_all_follow, is_summary}
-use Rattle.private_elim.specs.Locals.{LocalView, point_at}
+use Rattle.private_elim.specs.Locals.{point_at, private_at}
 use Rattle.private_elim.specs.Taken.{TakenView}
-use Rattle.private_elim.specs.SummaryRows.{is_pair_at, entry_at, pair_entries, row_below, row_of, rows_below}
+use Rattle.private_elim.specs.SummaryRows.{is_pair_at, joined_at, entry_at, pair_entries, row_below, row_of, rows_below}
 use Rattle.private_elim.proofs.Places.{Rises}
 
 -- the pair of an entry is less than that of another
@@ -37,6 +37,18 @@ is_summary-from_rising [] valid rising = refl
 is_summary-from_rising (e ∷ es) valid rising =
     both (is_valid e) (may_all_follow (Some e) es) (All-head (λ x. is_valid x ≡ true) e es valid)
     (follows e es (All-tail (λ x. is_valid x ≡ true) e es valid) rising)
+
+-- a private place has no entries
+private_pair : (a b c d : Bool) → b ≡ true → (not a && not b && not c && d) ≡ false
+private_pair true b c d is = refl
+private_pair false true c d is = refl
+private_pair false false c d is = absurd (false≢true is)
+
+pub row_private : (t : TakenView) (i : ℕ) → private_at t.local i ≡ true → (n : ℕ) → row_below t i n ≡ []
+row_private t i is zero = refl
+row_private t i is (suc n) =
+    let other : is_pair_at t i n ≡ false = private_pair (i == n) (private_at t.local i) (private_at t.local n) (joined_at t i n) is in
+    ap (λ xs. xs ++ pair_entries t i n) (row_private t i is n) ∙ ap (λ b. if b then entry_at t i n ∷ [] else []) other
 
 -- the pair (a, b) comes before (i, n), row by row
 abbrev pub IsEarlier : ℕ → ℕ → ℕ → ℕ → Type 0

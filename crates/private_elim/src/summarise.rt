@@ -38,14 +38,13 @@ fn entries_of(alloc: Global, part: &Elimination) -> Result<Vec<SummaryEntry>, Ou
 }
 
 // Adds the entries from a place.
-fn push_row(
-    entries: &mut Vec<SummaryEntry>,
-    part: &Elimination,
-    i: u32,
-) -> Result<(), OutOfMemory>
+fn push_row(entries: &mut Vec<SummaryEntry>, part: &Elimination, i: u32) -> Result<(), OutOfMemory>
     requires { i < length part.now.local.points }
     ensures { IfOk result (λ _. entries.new.items ≡ entries.old.items ++ row_of part.now i) }
 {
+    if part.local().is_private(i) {
+        return Ok(());
+    }
     for j in 0..part.size() {
         push_pair(entries, part, i, j)?;
     }

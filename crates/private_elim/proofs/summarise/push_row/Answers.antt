@@ -1,6 +1,18 @@
-use Rattle.std.proofs.Common.{◌≡◌, ◌++◌, length, sym, ap, ◌∙◌, add-one, append_assoc, arith}
+use Rattle.std.proofs.Common.{◌≡◌, ◌++◌, true, length, sym, ap, ◌∙◌, add-one, append_assoc, arith}
+use Rattle.std.proofs.lemmas.List.{append-nil}
+use Rattle.private_elim.specs.Locals.{private_at}
 use Rattle.private_elim.specs.SummaryRows.{row_below, pair_entries}
+use Rattle.private_elim.proofs.RowFacts.{row_private}
 use Rattle.private_elim.proofs.summarise.push_row.Goals as goal
+
+-- a private place has no entries
+pub returns-then-is_private : goal.returns-then-is_private
+returns-then-is_private c =
+    let t = c.args.part.now in
+    let was = c.args.entries.now.items in
+    let is : private_at t.local c.args.i ≡ true =
+    ap (λ v. private_at v c.args.i) (sym c.local.ensures) ∙ sym c.is_private.ensures ∙ c.if-is_private.true in
+    sym (ap (λ xs. was ++ xs) (row_private t c.args.i is (length t.local.points)) ∙ append-nil was)
 
 -- one place further
 pub loop-j-preserved : goal.loop-j-preserved

@@ -27,19 +27,19 @@ detour-requires-clause-to c = end_range c.self.inside.part c.size-size.ensures.f
 
 -- and is a walk of the entry's weight
 pub returns-then-is_detour-clause-walk : goal.returns-then-is_detour-clause-walk
-returns-then-is_detour-clause-walk c = 
+returns-then-is_detour-clause-walk c =
     (subst (λ x. IsWalkOf x c.args.i.0 c.args.j.0 c.new.result) c.self.view_is
     (by_detour c.self.inside.part c.size-size.ensures.facts c.self.inside.summary c.self.invariant c.local-local.result.now c.local-local.ensures c.args.i.0 c.args.j.0 (rw (← c.self.view_is) at c.requires) c.in-Some.from c.in-Some-place_of.to (sym c.in-Some.ensures) (sym c.in-Some-place_of.ensures)
     (sym c.is_detour.ensures ∙ c.if-is_detour.true) c.new.result (c.new.ensures ∙ c.in_ok-numbers.ensures))).walk
 
 pub returns-then-is_detour-clause-own : goal.returns-then-is_detour-clause-own
-returns-then-is_detour-clause-own c = 
+returns-then-is_detour-clause-own c =
     (subst (λ x. IsWalkOf x c.args.i.0 c.args.j.0 c.new.result) c.self.view_is
     (by_detour c.self.inside.part c.size-size.ensures.facts c.self.inside.summary c.self.invariant c.local-local.result.now c.local-local.ensures c.args.i.0 c.args.j.0 (rw (← c.self.view_is) at c.requires) c.in-Some.from c.in-Some-place_of.to (sym c.in-Some.ensures) (sym c.in-Some-place_of.ensures)
     (sym c.is_detour.ensures ∙ c.if-is_detour.true) c.new.result (c.new.ensures ∙ c.in_ok-numbers.ensures))).own
 
 pub returns-then-is_detour-clause-weight : goal.returns-then-is_detour-clause-weight
-returns-then-is_detour-clause-weight c = 
+returns-then-is_detour-clause-weight c =
     (subst (λ x. IsWalkOf x c.args.i.0 c.args.j.0 c.new.result) c.self.view_is
     (by_detour c.self.inside.part c.size-size.ensures.facts c.self.inside.summary c.self.invariant c.local-local.result.now c.local-local.ensures c.args.i.0 c.args.j.0 (rw (← c.self.view_is) at c.requires) c.in-Some.from c.in-Some-place_of.to (sym c.in-Some.ensures) (sym c.in-Some-place_of.ensures)
     (sym c.is_detour.ensures ∙ c.if-is_detour.true) c.new.result (c.new.ensures ∙ c.in_ok-numbers.ensures))).weighs
@@ -63,21 +63,21 @@ numbers_of-requires-clause-within c =
 
 -- and are a walk of its weight
 pub returns-clause-walk : goal.returns-clause-walk
-returns-clause-walk c = 
+returns-clause-walk c =
     (subst (λ x. IsWalkOf x c.args.i.0 c.args.j.0 c.new-2.result) c.self.view_is
     (by_cell c.self.inside.part c.size-size.ensures.facts c.self.inside.summary c.self.invariant c.local-local.result.now c.local-local.ensures c.args.i.0 c.args.j.0 (rw (← c.self.view_is) at c.requires) c.in-Some.from c.in-Some-place_of.to (sym c.in-Some.ensures) (sym c.in-Some-place_of.ensures)
     (sym c.is_detour.ensures ∙ c.if-is_detour.false) c.in_ok-places.places.items c.new-2.result (c.new-2.ensures ∙ c.in_ok-numbers-2.ensures ∙ ap (map (number_in c.local-local.result.now)) c.as_slice.ensures.value)
     c.in_ok-places.ensures.walk c.in_ok-places.ensures.weight)).walk
 
 pub returns-clause-own : goal.returns-clause-own
-returns-clause-own c = 
+returns-clause-own c =
     (subst (λ x. IsWalkOf x c.args.i.0 c.args.j.0 c.new-2.result) c.self.view_is
     (by_cell c.self.inside.part c.size-size.ensures.facts c.self.inside.summary c.self.invariant c.local-local.result.now c.local-local.ensures c.args.i.0 c.args.j.0 (rw (← c.self.view_is) at c.requires) c.in-Some.from c.in-Some-place_of.to (sym c.in-Some.ensures) (sym c.in-Some-place_of.ensures)
     (sym c.is_detour.ensures ∙ c.if-is_detour.false) c.in_ok-places.places.items c.new-2.result (c.new-2.ensures ∙ c.in_ok-numbers-2.ensures ∙ ap (map (number_in c.local-local.result.now)) c.as_slice.ensures.value)
     c.in_ok-places.ensures.walk c.in_ok-places.ensures.weight)).own
 
 pub returns-clause-weight : goal.returns-clause-weight
-returns-clause-weight c = 
+returns-clause-weight c =
     (subst (λ x. IsWalkOf x c.args.i.0 c.args.j.0 c.new-2.result) c.self.view_is
     (by_cell c.self.inside.part c.size-size.ensures.facts c.self.inside.summary c.self.invariant c.local-local.result.now c.local-local.ensures c.args.i.0 c.args.j.0 (rw (← c.self.view_is) at c.requires) c.in-Some.from c.in-Some-place_of.to (sym c.in-Some.ensures) (sym c.in-Some-place_of.ensures)
     (sym c.is_detour.ensures ∙ c.if-is_detour.false) c.in_ok-places.places.items c.new-2.result (c.new-2.ensures ∙ c.in_ok-numbers-2.ensures ∙ ap (map (number_in c.local-local.result.now)) c.as_slice.ensures.value)
