@@ -11,6 +11,11 @@ pub mod Forwards
 pub mod RowFacts
 pub mod Unfolding
 pub mod OriginFacts
+pub mod Counts
+pub mod Takes
+pub mod Laying
+pub mod Within
+pub mod ButOne
 pub mod NoConflicts
 pub mod NumberedWalks
 pub mod Failing

@@ -1,5 +1,5 @@
 -- Walks unfolded out of the origins of cells: what is true at the beginning, that the next part can be unfolded, that a step keeps what is
--- true, and that it makes the parts ahead smaller: power-sum, starts, begins, own_ahead, step, falls.
+-- true, and that it makes the parts ahead smaller: power-sum, starts, begins, unfolds_ahead, step, falls.
 use Rattle.std.proofs.Common.{◌≡◌, ℕ, ◌+◌, ◌*◌, ◌^◌, ◌<◌, ◌≤◌, zero, suc, List, [], ◌∷◌, ◌++◌, true, Option, Some, None, length, reverse, ◌≢◌, ap, sym, ◌∙◌, refl, subst, arith, ◌⊎◌, inl, inr}
 use Rattle.std.specs.Prelude.{ℤ, pos, ◌+ℤ◌, is_some, IfSome}
 use Rattle.std.specs.List.{AllByRecursion}
@@ -23,7 +23,7 @@ use Rattle.private_elim.specs.declared.elimination.Elimination.TheInside.{Inside
 use Rattle.private_elim.specs.Locals.{arcs_in}
 use Rattle.private_elim.specs.Underway.{taken_view, IsUnderway}
 use Rattle.private_elim.specs.Origins.{rank_in, rank_of, IsArcOf, IsSumOf, IsFrom, HasOrigins}
-use Rattle.private_elim.specs.Unfolds.{is_own, unfolds_at, Unfolds, IsAhead, LeadsOn, weight_in, parts_weight, size_in, parts_size, IsUnfolding}
+use Rattle.private_elim.specs.Unfolds.{is_unpublished, unfolds_at, Unfolds, IsAhead, LeadsOn, weight_in, parts_weight, size_in, parts_size, IsUnfolding}
 
 -- a fact of each of a list and of one element more
 each-push : {X : Type 0} (P : X → Type 0) (xs : List X) (x : X) → AllByRecursion P xs → P x → AllByRecursion P (xs ++ x ∷ [])
@@ -87,20 +87,20 @@ module _ (at : ℕ → ℕ → Option Cell) where
 
 module _ (points : List ℕ) (arcs : List Constraint) (es : List ℕ) (at : ℕ → ℕ → Option Cell) where
   -- a weight that has its origin can be unfolded
-  own-from : (p q : ℕ) (c : Cell) (v : Via) → IsFrom points arcs es at p q c v → is_own v ≡ true
-  own-from p q c (Given n) h = refl
-  own-from p q c (Published a) h = absurd h
-  own-from p q c (Through k) h = refl
+  unpublished-from : (p q : ℕ) (c : Cell) (v : Via) → IsFrom points arcs es at p q c v → is_unpublished v ≡ true
+  unpublished-from p q c (Given n) h = refl
+  unpublished-from p q c (Published a) h = absurd h
+  unpublished-from p q c (Through k) h = refl
 
-  own-at : (p q : ℕ) (o : Option Cell) → IfSome o (λ c. IsFrom points arcs es at p q c c.via) → is_some o ≡ true → unfolds_at o ≡ true
-  own-at p q None h there = there
-  own-at p q (Some c) h there = own-from p q c c.via h
+  unfolds-there : (p q : ℕ) (o : Option Cell) → IfSome o (λ c. IsFrom points arcs es at p q c c.via) → is_some o ≡ true → unfolds_at o ≡ true
+  unfolds-there p q None h there = there
+  unfolds-there p q (Some c) h there = unpublished-from p q c c.via h
 
   -- so the next part can be unfolded
-  pub own_ahead : HasOrigins points arcs es at → (j : ℕ) (ahead : List Part) (part : Part) → AllByRecursion (IsAhead points es at j) (ahead ++ part ∷ [])
+  pub unfolds_ahead : HasOrigins points arcs es at → (j : ℕ) (ahead : List Part) (part : Part) → AllByRecursion (IsAhead points es at j) (ahead ++ part ∷ [])
       → (part.from < length points) × (part.to < length points) × (unfolds_at (at part.from part.to) ≡ true)
-  own_ahead origins j ahead part each =
-      let next = (each-pushed (IsAhead points es at j) ahead part each).1 in (next.starts, next.ends, own-at part.from part.to (at part.from part.to) (origins part.from part.to) next.there)
+  unfolds_ahead origins j ahead part each =
+      let next = (each-pushed (IsAhead points es at j) ahead part each).1 in (next.starts, next.ends, unfolds-there part.from part.to (at part.from part.to) (origins part.from part.to) next.there)
 
   module _ (i j : ℕ) (cell : Option Cell) where
     -- at the beginning the whole is ahead

@@ -13,4 +13,5 @@ pub mod Held
 pub mod Laws
 pub mod SummaryRows
 pub mod Unfolds
+pub mod Laid
 pub mod Numbers

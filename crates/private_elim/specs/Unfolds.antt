@@ -1,4 +1,4 @@
--- A walk that is unfolded out of the origins of cells: is_own, unfolds_at, Unfolds, IsAhead, LeadsOn, parts_weight, parts_size,
+-- A walk that is unfolded out of the origins of cells: is_unpublished, unfolds_at, Unfolds, IsAhead, LeadsOn, parts_weight, parts_size,
 -- IsUnfolding. The parts that are still to be unfolded are a stack: the last one of the list is the next one of the walk.
 use Rattle.std.specs.Prelude.{◌≡◌, ℕ, ℤ, pos, ◌+◌, ◌*◌, ◌^◌, ◌<◌, ◌+ℤ◌, List, [], ◌∷◌, ◌++◌, Bool, true, false, Option, Some, None, length, is_some, ◌⊎◌}
 use Rattle.std.specs.List.{AllByRecursion}
@@ -13,15 +13,15 @@ use Rattle.private_elim.specs.Origins.{rank_of}
 use Rattle.private_elim.specs.declared.unfold.Part.{Part}
 
 -- whether a weight is that of an arc or a sum, and not one that an agent published
-abbrev pub is_own : Via → Bool
-is_own (Given n) = true
-is_own (Published a) = false
-is_own (Through k) = true
+abbrev pub is_unpublished : Via → Bool
+is_unpublished (Given n) = true
+is_unpublished (Published a) = false
+is_unpublished (Through k) = true
 
 -- whether there is a cell with such a weight
 abbrev pub unfolds_at : Option Cell → Bool
 unfolds_at None = false
-unfolds_at (Some c) = is_own c.via
+unfolds_at (Some c) = is_unpublished c.via
 
 -- the walk and the stack before and after a part is unfolded: its arc ends the walk, or it is two parts in turn, the first one on top
 abbrev pub Unfolds : Part → Via → List ℕ → List ℕ → List Part → List Part → Type 0

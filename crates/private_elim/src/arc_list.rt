@@ -18,6 +18,7 @@ impl ArcList for Local {
     }
 
     fn arc_at(&self, n: u32) -> Constraint {
+        // What the size tells of the local problem: its points and arcs are within the limits of a network.
         let _facts = self.size();
         self.arc(n).arc
     }

@@ -26,6 +26,7 @@ pub fn own_conflict(
     ensures cycle { IfOk result (λ w. OfNetwork part.now.local (λ net. IsOwnConflict net part.now.local.agent w)) }
     ensures normal { IfOk result IsNormal }
 {
+    // What the size tells of the part: the taken points are private, and no closed walk through them is negative.
     let _facts = part.size();
     let mut closed = part.unfold(alloc, place, other)?;
     let back = part.unfold(alloc, other, place)?;

@@ -11,6 +11,7 @@ pub mod local;
 mod numbers;
 pub mod outcome;
 pub mod reduced;
+mod start;
 mod summarise;
 mod unfold;
 

@@ -27,7 +27,7 @@ fn unfold_part<R: Rows>(
     ahead: &mut Vec<Part>,
 ) -> Result<(), OutOfMemory>
     requires within { (part.from < R.places rows.now) × (part.to < R.places rows.now) }
-    requires own { unfolds_at (R.at rows.now part.from part.to) ≡ true }
+    requires unfolds { unfolds_at (R.at rows.now part.from part.to) ≡ true }
     ensures { OnOk result (IfSome (R.at rows.now part.from part.to)
         (λ c. Unfolds part c.via walk.old.items walk.new.items ahead.old.items ahead.new.items)) }
 {
@@ -55,7 +55,6 @@ fn unfold_part<R: Rows>(
 impl Elimination {
     /// The arcs of a walk from a place to another, by their numbers in the local problem, through taken points that come before
     /// both: one of the cell's weight.
-    // A walk may have an arc for each point, and a call within a call for each would take too much of the machine's stack.
     pub fn unfold(&self, alloc: Global, from: u32, to: u32) -> Result<Vec<u32>, OutOfMemory>
         requires within { (from < length self.now.local.points) × (to < length self.now.local.points) }
         requires apart { from ≢ to }
@@ -66,6 +65,7 @@ impl Elimination {
         ensures through { IfOk result (λ ns. AllByRecursion (λ p. (is_in (reverse self.now.order) p ≡ true) ⊎ (p ≡ point_at self.now.local.points to)) (walks.heads (arcs_in self.now.local) ns.items)) }
     {
         let mut walk = Vec::new(alloc);
+        // A stack of its own, since on a chain of points a function that calls itself would be thousands of calls deep.
         let mut ahead = vec![in alloc; Part { from, to }]?;
         while let Some(part) = ahead.pop() {
             unfold_part(&self.rows, part, &mut walk, &mut ahead)?;

@@ -3,7 +3,7 @@ use Rattle.dist_rows.specs.Matrix.{cell_at}
 use Rattle.elim_step.specs.Eliminated.{point_at}
 use Rattle.private_elim.specs.Locals.{arcs_in}
 use Rattle.private_elim.specs.Underway.{taken_view}
-use Rattle.private_elim.proofs.Unfolding.{begins, own_ahead, step, falls}
+use Rattle.private_elim.proofs.Unfolding.{begins, unfolds_ahead, step, falls}
 use Rattle.private_elim.proofs.elimination.Elimination.unfold.Goals as goal
 
 pub loop-part-init : goal.loop-part-init
@@ -20,16 +20,16 @@ unfold_part-requires-clause-within c =
     let u = c.self.invariant in
     let at = cell_at e.rows.size e.rows.slots.items in
     let here = rw c.in-Some.ensures.items at c.loop-part.invariant.each in
-    let own = own_ahead e.local.points (arcs_in e.local) (reverse (taken_view e).order) at u.taken.origins (point_at e.local.points c.args.to) c.pop.new.self.items c.in-Some.part here in
-    rw u.square (own.0, own.1)
+    let next = unfolds_ahead e.local.points (arcs_in e.local) (reverse (taken_view e).order) at u.taken.origins (point_at e.local.points c.args.to) c.pop.new.self.items c.in-Some.part here in
+    rw u.square (next.0, next.1)
 
-pub unfold_part-requires-clause-own : goal.unfold_part-requires-clause-own
-unfold_part-requires-clause-own c =
+pub unfold_part-requires-clause-unfolds : goal.unfold_part-requires-clause-unfolds
+unfold_part-requires-clause-unfolds c =
     let e = c.self.inside in
     let u = c.self.invariant in
     let at = cell_at e.rows.size e.rows.slots.items in
     let here = rw c.in-Some.ensures.items at c.loop-part.invariant.each in
-    (own_ahead e.local.points (arcs_in e.local) (reverse (taken_view e).order) at u.taken.origins (point_at e.local.points c.args.to) c.pop.new.self.items c.in-Some.part here).2
+    (unfolds_ahead e.local.points (arcs_in e.local) (reverse (taken_view e).order) at u.taken.origins (point_at e.local.points c.args.to) c.pop.new.self.items c.in-Some.part here).2
 
 pub loop-part-smaller : goal.loop-part-smaller
 loop-part-smaller c =
