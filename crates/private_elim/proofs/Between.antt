@@ -1,8 +1,7 @@
--- The weight between two points of a reduced local problem, by their places.
-use Rattle.std.proofs.Common.{◌≡◌, ◌≢◌, ℕ, ◌<◌, ◌≤◌, Bool, true, false, ◌&&◌, not, List, [], ◌∷◌, length, map, reverse, Option, Some, None, if◌then◌else◌, inl, inr, refl, sym, ap, subst, ◌∙◌, arith}
-use Rattle.std.specs.Prelude.{ℤ, ◌≤ℤ◌, ◌==◌, int_lt, is_some, cond}
-use Rattle.std.specs.Int.{int_min}
-use Rattle.std.proofs.lemmas.Bool.{cases_eq, false_from_ne_true, false≢true, and_parts}
+-- The weight between two points of a reduced local problem, by their places: view_of.
+use Rattle.std.proofs.Common.{◌≡◌, ◌≢◌, ℕ, ◌<◌, true, false, ◌&&◌, not, List, length, map, reverse, Option, Some, None, if◌then◌else◌, inl, inr, refl, sym, ap, ◌∙◌, arith}
+use Rattle.std.specs.Prelude.{ℤ, ◌==◌, is_some, cond}
+use Rattle.std.proofs.lemmas.Bool.{cases_eq, false≢true, and_parts}
 use Rattle.std.proofs.lemmas.Bool.Decides.{nat_tests}
 use Rattle.stn_model.specs.ArcWalks.{IsInnerLeast}
 use Rattle.stn_model.specs.Net.{Net}
@@ -10,13 +9,13 @@ use Rattle.stn_model.specs.Summaries.{Entry, IsSeenPair, IsEntryWeight, IsSummar
 use Rattle.stn_walk.specs.Eliminations.{is_in, before_both}
 use Rattle.elim_step.specs.declared.summary.SummaryEntry.{SummaryEntry}
 use Rattle.elim_step.specs.Eliminated.{forward_of}
-use Rattle.private_elim.specs.Locals.{LocalView, local_of, arcs_in, point_at, place_in, private_at, passes_at, horizon_in}
+use Rattle.private_elim.specs.Locals.{local_of, arcs_in, point_at, place_in, private_at, passes_at, horizon_in}
 use Rattle.private_elim.specs.ReducedViews.{ReducedView, IsReduced, entry_of, entry_in, first_there, weight_between}
 use Rattle.private_elim.specs.Taken.{TakenView, HasTaken}
-use Rattle.private_elim.specs.SummaryRows.{is_pair_at, weight_at, entry_at, is_over}
+use Rattle.private_elim.specs.SummaryRows.{is_pair_at, forward_at, entry_at, is_over}
 use Rattle.private_elim.proofs.LocalFacts.{numbered-is, seen_of_net}
 use Rattle.private_elim.proofs.TakenFacts.{forward_least, none_from_strange, none_to_strange}
-use Rattle.private_elim.proofs.SumsUp.{Pair, points_apart, pair_is, pair_passes, seen_pair, entry_is, places_of_pair}
+use Rattle.private_elim.proofs.SumsUp.{points_apart, pair_is, pair_passes, seen_pair, entry_is, places_of_pair}
 use Rattle.private_elim.proofs.EntryLookups.{found_holds, found_some, entry_unique}
 
 -- what is true of each entry
@@ -81,30 +80,30 @@ module _ (t : TakenView) (h : HasTaken t) (summary : List SummaryEntry) (r : IsR
       ] refl
 
   -- the weight between two places
-  pub between_over : (a b : ℕ) → a < length t.local.points → b < length t.local.points → (is_pair_at t a b && is_over (horizon_in t.local) (weight_at t a b)) ≡ true
+  pub between_over : (a b : ℕ) → a < length t.local.points → b < length t.local.points → (is_pair_at t a b && is_over (horizon_in t.local) (forward_at t a b)) ≡ true
       → weight_between (view_of t summary) (point_at t.local.points a) (point_at t.local.points b) ≡ Some (horizon_in t.local)
   between_over a b la lb is =
-      let parts = and_parts (is_pair_at t a b) (is_over (horizon_in t.local) (weight_at t a b)) is in
+      let parts = and_parts (is_pair_at t a b) (is_over (horizon_in t.local) (forward_at t a b)) is in
       let x = point_at t.local.points a in
       let y = point_at t.local.points b in
       ap (λ o. first_there o (if x == y then None else forward_of (arcs_in t.local) (reverse t.order) x y)) (pair_entry a b la lb parts.0)
-      ∙ ap Some (over_weight (horizon_in t.local) (weight_at t a b) parts.1)
+      ∙ ap Some (over_weight (horizon_in t.local) (forward_at t a b) parts.1)
 
   under_there : (x y : Option ℤ) (w : ℤ) → Some w ≡ x → first_there (Some w) y ≡ x
   under_there x y w is = is
 
-  pub between_under : (a b : ℕ) → a < length t.local.points → b < length t.local.points → a ≢ b → (is_pair_at t a b && is_over (horizon_in t.local) (weight_at t a b)) ≡ false
-      → weight_between (view_of t summary) (point_at t.local.points a) (point_at t.local.points b) ≡ weight_at t a b
+  pub between_under : (a b : ℕ) → a < length t.local.points → b < length t.local.points → a ≢ b → (is_pair_at t a b && is_over (horizon_in t.local) (forward_at t a b)) ≡ false
+      → weight_between (view_of t summary) (point_at t.local.points a) (point_at t.local.points b) ≡ forward_at t a b
   between_under a b la lb apart other =
       let x = point_at t.local.points a in
       let y = point_at t.local.points b in
       let differ = points_apart t h a b la lb apart in
       let test : (x == y) ≡ false = grind (arith, nat_tests) in
       let rest : Option ℤ = if x == y then None else forward_of (arcs_in t.local) (reverse t.order) x y in
-      elim (is_pair_at t a b) as (λ p. is_pair_at t a b ≡ p → first_there (entry_in summary x y) rest ≡ weight_at t a b) [
+      elim (is_pair_at t a b) as (λ p. is_pair_at t a b ≡ p → first_there (entry_in summary x y) rest ≡ forward_at t a b) [
         | true ↦ λ pair.
             ap (λ o. first_there o rest) (pair_entry a b la lb pair)
-            ∙ under_weight (horizon_in t.local) (weight_at t a b) (sym (ap (λ p. p && is_over (horizon_in t.local) (weight_at t a b)) pair) ∙ other)
+            ∙ under_weight (horizon_in t.local) (forward_at t a b) (sym (ap (λ p. p && is_over (horizon_in t.local) (forward_at t a b)) pair) ∙ other)
         | false ↦ λ pair.
             ap (λ o. first_there o rest) (no_entry a b la lb pair) ∙ ap (λ p. if p then None else forward_of (arcs_in t.local) (reverse t.order) x y) test
       ] refl

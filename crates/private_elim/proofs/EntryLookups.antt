@@ -1,15 +1,15 @@
--- What a look-up in a summary answers: HoldsOf.
-use Rattle.std.proofs.Common.{◌≡◌, ℕ, suc, zero, ◌<◌, Bool, true, false, ◌&&◌, List, [], ◌∷◌, map, length, Option, Some, None, if◌then◌else◌, refl, sym, ap, subst, ◌∙◌, arith}
-use Rattle.std.specs.Prelude.{ℤ, ◌≤ℤ◌, ◌==◌, is_some}
+-- What a look-up in a summary answers.
+use Rattle.std.proofs.Common.{◌≡◌, ℕ, suc, zero, ◌<◌, Bool, true, false, ◌&&◌, List, [], ◌∷◌, map, Option, Some, None, if◌then◌else◌, refl, sym, ap, subst, ◌∙◌, arith}
+use Rattle.std.specs.Prelude.{ℤ, ◌==◌, is_some}
 use Rattle.std.specs.List.{AllByRecursion, Contains}
 use Rattle.std.proofs.lemmas.Bool.Decides.{nat_tests}
-use Rattle.std.proofs.lemmas.Int.{ints}
 use Rattle.stn_model.specs.declared.ids.Constraint.{Constraint}
 use Rattle.stn_model.specs.ArcWalks.{IsInnerLeast}
 use Rattle.stn_model.specs.Net.{Net}
-use Rattle.stn_model.specs.Summaries.{Entry, IsSeenPair, IsEntryWeight, entry_weight}
+use Rattle.stn_model.specs.Summaries.{Entry, IsEntryWeight, entry_weight}
 use Rattle.elim_step.specs.declared.summary.SummaryEntry.{SummaryEntry}
 use Rattle.private_elim.specs.ReducedViews.{entry_of, entry_in}
+use Rattle.private_elim.proofs.Failing.{least_same}
 
 -- whether an entry is that of a pair
 abbrev is_entry_of : SummaryEntry → ℕ → ℕ → Bool
@@ -50,17 +50,10 @@ found_some (e ∷ es) i j w (suc k, within, is) =
     ] refl
 
 -- inner least weights are unique
-pub least_unique : (inner : ℕ → Bool) (arcs : List Constraint) (i j : ℕ) (x y : Option ℤ) → IsInnerLeast inner arcs i j x → IsInnerLeast inner arcs i j y → x ≡ y
+least_unique : (inner : ℕ → Bool) (arcs : List Constraint) (i j : ℕ) (x y : Option ℤ) → IsInnerLeast inner arcs i j x → IsInnerLeast inner arcs i j y → x ≡ y
 least_unique inner arcs i j None None h g = refl
 least_unique inner arcs i j None (Some b) h g = absurd (h g.0.0 g.0.1)
-least_unique inner arcs i j (Some a) None h g = absurd (g h.0.0 h.0.1)
-least_unique inner arcs i j (Some a) (Some b) h g =
-    let low = h.1 g.0.0 g.0.1 in
-    let high = g.1 h.0.0 h.0.1 in
-    let x = h.0.2 in
-    let y = g.0.2 in
-    let same : a ≡ b = omega (arith, ints) in
-    ap Some same
+least_unique inner arcs i j (Some a) y h g = sym (least_same inner arcs i j a y h g)
 
 -- so is the weight of a pair's entry
 pub entry_unique : (net : Net) (agent i j : ℕ) (v w : ℤ) → IsEntryWeight net agent i j v → IsEntryWeight net agent i j w → v ≡ w

@@ -1,7 +1,6 @@
--- The weight that is found for two points, by their places.
-use Rattle.std.proofs.Common.{◌≡◌, ◌≢◌, ℕ, ◌<◌, Option, Some, None, length, reverse, refl, sym, ap, subst, ◌∙◌}
+-- The weight that is found for two points, by their places: IsForward.
+use Rattle.std.proofs.Common.{◌≡◌, ◌≢◌, ℕ, ◌<◌, Option, Some, None, length, reverse, sym, ap, subst, ◌∙◌}
 use Rattle.std.specs.Prelude.{ℤ}
-use Rattle.stn_model.specs.ArcWalks.{IsInnerLeast}
 use Rattle.stn_model.specs.Inner.{IsInnerWeight}
 use Rattle.stn_walk.specs.Eliminations.{is_in, before_both}
 use Rattle.elim_step.specs.Eliminated.{forward_of}
@@ -10,7 +9,7 @@ use Rattle.private_elim.specs.Taken.{TakenView, HasTaken}
 use Rattle.private_elim.proofs.Places.{place_found}
 use Rattle.private_elim.proofs.TakenFacts.{forward_least, inner_weight, none_from_strange, none_to_strange}
 
--- the inner weight that comes before both of two points
+-- the inner weight of two points through those taken before both
 abbrev pub IsForward : TakenView → ℕ → ℕ → Option ℤ → Type 0
 IsForward t i j o = IsInnerWeight (is_in (before_both (reverse t.order) i j)) (arcs_in t.local) i j o
 

@@ -1,18 +1,18 @@
 -- The walks of a reduced local problem, in each network whose local problem it is: IsWalkOf.
-use Rattle.std.proofs.Common.{◌≡◌, ◌≢◌, ℕ, ◌*◌, ◌-◌, ◌<◌, true, false, ◌&&◌, List, [], ◌∷◌, length, map, Option, Some, None, refl, sym, ap, subst, ◌∙◌, arith}
-use Rattle.std.specs.Prelude.{ℤ, is_some}
-use Rattle.std.specs.List.{All, AllByRecursion}
+use Rattle.std.proofs.Common.{◌≡◌, ◌≢◌, ℕ, ◌*◌, ◌-◌, ◌<◌, true, false, ◌&&◌, List, [], ◌∷◌, length, map, Some, None, sym, ap, subst, ◌∙◌, arith}
+use Rattle.std.specs.Prelude.{is_some}
+use Rattle.std.specs.List.{All}
 use Rattle.std.proofs.lemmas.List.{length-map}
 use Rattle.std.proofs.lemmas.List.Elements.{All-nil, All-cons}
 use Rattle.stn_model.specs.Arcs.{to_at}
-use Rattle.stn_model.specs.Net.{Net, arcs_of}
+use Rattle.stn_model.specs.Net.{arcs_of}
 use Rattle.stn_model.specs.Walks.{IsWalk, weight}
 use Rattle.elim_step.specs.declared.summary.SummaryEntry.{SummaryEntry}
-use Rattle.private_elim.specs.Locals.{LocalView, local_of, arcs_in, point_at, place_in, horizon_in}
+use Rattle.private_elim.specs.Locals.{LocalView, arcs_in, point_at, place_in, horizon_in}
 use Rattle.private_elim.specs.ReducedViews.{ReducedView, IsReduced, weight_between}
 use Rattle.private_elim.specs.Reductions.{OfNetwork, AreOwn}
 use Rattle.private_elim.specs.Taken.{TakenView, HasTaken}
-use Rattle.private_elim.specs.SummaryRows.{is_pair_at, weight_at, is_over}
+use Rattle.private_elim.specs.SummaryRows.{is_pair_at, forward_at, is_over}
 use Rattle.private_elim.specs.Numbers.{number_in}
 use Rattle.private_elim.proofs.LocalFacts.{points_small}
 use Rattle.private_elim.proofs.NumberedWalks.{same_walk}
@@ -39,7 +39,7 @@ places_within v w i j ks places same are walk =
 
 module _ (t : TakenView) (h : HasTaken t) (summary : List SummaryEntry) (r : IsReduced t.local t.order summary) where
   -- by the two arcs through z
-  detour_walk : (a b : ℕ) → a < length t.local.points → b < length t.local.points → (is_pair_at t a b && is_over (horizon_in t.local) (weight_at t a b)) ≡ true
+  detour_walk : (a b : ℕ) → a < length t.local.points → b < length t.local.points → (is_pair_at t a b && is_over (horizon_in t.local) (forward_at t a b)) ≡ true
       → IsWalkOf (view_of t summary) (point_at t.local.points a) (point_at t.local.points b)
       ((2 * point_at t.local.points a - 1) ∷ (2 * point_at t.local.points b - 2) ∷ [])
   detour_walk a b la lb is = record {
@@ -49,8 +49,8 @@ module _ (t : TakenView) (h : HasTaken t) (summary : List SummaryEntry) (r : IsR
   }
 
   -- by the arcs that a cell stands for
-  plain_walk : (a b : ℕ) → a < length t.local.points → b < length t.local.points → a ≢ b → (is_pair_at t a b && is_over (horizon_in t.local) (weight_at t a b)) ≡ false
-      → (ks : List ℕ) → IsWalk (arcs_in t.local) (point_at t.local.points a) (point_at t.local.points b) ks → Some (weight (arcs_in t.local) ks) ≡ weight_at t a b
+  plain_walk : (a b : ℕ) → a < length t.local.points → b < length t.local.points → a ≢ b → (is_pair_at t a b && is_over (horizon_in t.local) (forward_at t a b)) ≡ false
+      → (ks : List ℕ) → IsWalk (arcs_in t.local) (point_at t.local.points a) (point_at t.local.points b) ks → Some (weight (arcs_in t.local) ks) ≡ forward_at t a b
       → IsWalkOf (view_of t summary) (point_at t.local.points a) (point_at t.local.points b) (map (number_in t.local) ks)
   plain_walk a b la lb apart other ks walk weighs = record {
     walk = λ net valid e. (same_walk t.local net e (point_at t.local.points a) (point_at t.local.points b) ks walk).walk;
@@ -81,7 +81,7 @@ module _ (t : TakenView) (h : HasTaken t) (summary : List SummaryEntry) (r : IsR
       both_apart e = between_apart t h summary r i j there (sym start.1 ∙ ap (point_at t.local.points) e ∙ end.1)
 
       -- where the detour is taken
-      module _ (is : (is_pair_at t a b && is_over (horizon_in t.local) (weight_at t a b)) ≡ true) where
+      module _ (is : (is_pair_at t a b && is_over (horizon_in t.local) (forward_at t a b)) ≡ true) where
         pub start_range : (0 < i) × (i < 4096)
         start_range =
             let small = points_small t.local h.known a 0 start.0 in
@@ -104,14 +104,14 @@ module _ (t : TakenView) (h : HasTaken t) (summary : List SummaryEntry) (r : IsR
             (detour_walk a b start.0 end.0 is)))
 
       -- and where it is not
-      module _ (other : (is_pair_at t a b && is_over (horizon_in t.local) (weight_at t a b)) ≡ false) where
-        pub weight_there : is_some (weight_at t a b) ≡ true
+      module _ (other : (is_pair_at t a b && is_over (horizon_in t.local) (forward_at t a b)) ≡ false) where
+        pub weight_there : is_some (forward_at t a b) ≡ true
         weight_there =
             ap is_some (sym (between_under t h summary r a b start.0 end.0 both_apart other))
             ∙ (λ k. is_some (weight_between (view_of t summary) (start.1 k) (end.1 k))) ∙ there
 
         pub by_cell : (ks numbers : List ℕ) → numbers ≡ map (number_in v) ks → IsWalk (arcs_in t.local) (point_at t.local.points a) (point_at t.local.points b) ks
-            → Some (weight (arcs_in t.local) ks) ≡ weight_at t a b → IsWalkOf (view_of t summary) i j numbers
+            → Some (weight (arcs_in t.local) ks) ≡ forward_at t a b → IsWalkOf (view_of t summary) i j numbers
         by_cell ks numbers are walk weighs =
             subst (IsWalkOf (view_of t summary) i j) (sym (are ∙ ap (λ w. map (number_in w) ks) same))
             (subst (λ q. IsWalkOf (view_of t summary) i q (map (number_in t.local) ks)) end.1

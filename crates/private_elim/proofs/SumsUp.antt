@@ -1,40 +1,36 @@
--- Once all private points are taken, the entries of the pairs are the agent's summary in its network.
-use Rattle.std.proofs.Common.{◌≡◌, ◌≢◌, ℕ, ◌<◌, ◌≤◌, Bool, true, false, ◌&&◌, ◌||◌, not, List, [], ◌∷◌, length, map, get_or, nat_le, Option, Some, None, inl, inr, ◌⊎◌, refl, sym, ap, subst, ◌∙◌, arith, ⊎_elim, reverse}
+-- Once all private points are taken, the entries of the pairs are the agent's summary in its network: Pair, PlacesOf.
+use Rattle.std.proofs.Common.{◌≡◌, ◌≢◌, ℕ, ◌<◌, ◌≤◌, Bool, true, false, ◌&&◌, not, List, [], ◌∷◌, length, map, get_or, nat_le, Option, Some, None, inl, inr, refl, sym, ap, subst, ◌∙◌, arith, reverse}
 use Rattle.std.specs.Prelude.{ℤ, pos, ◌≤ℤ◌, ◌==◌, int_lt, IfSome, nat_abs}
-use Rattle.std.specs.Int.{int_min}
-use Rattle.std.specs.List.{All, AllByRecursion, AllPairs, Contains}
-use Rattle.std.proofs.lemmas.Bool.{cases_lt, cases_eq, false_from_ne_true, false≢true}
+use Rattle.std.specs.List.{AllByRecursion, AllPairs, Contains}
+use Rattle.std.proofs.lemmas.Bool.{cases_lt, false_from_ne_true, false≢true}
 use Rattle.std.proofs.lemmas.Bool.Decides.{nat_tests}
 use Rattle.std.proofs.lemmas.Int.{ints}
 use Rattle.std.proofs.lemmas.List.{get_or-map, length-map}
 use Rattle.std.proofs.lemmas.List.Elements.{All-map, All-weaker, recursion_from_All}
-use Rattle.stn_model.specs.declared.ids.Constraint.{Constraint}
 use Rattle.stn_model.specs.ArcWalks.{NoNegative, IsInnerLeast}
 use Rattle.stn_model.specs.Inner.{IsInnerWeight}
 use Rattle.stn_model.specs.Joined.{IsPath}
 use Rattle.stn_model.specs.Net.{Net}
-use Rattle.stn_model.specs.Valid.{IsNetwork}
 use Rattle.stn_model.specs.Kinds.{is_private_of}
 use Rattle.stn_model.specs.Conflicts.{own_arcs}
 use Rattle.stn_model.specs.Summaries.{Entry, IsSeenPair, IsEntryWeight, IsSummary, entry_weight, is_seen}
-use Rattle.stn_walk.specs.Eliminations.{is_in, before_both, cell_of}
+use Rattle.stn_walk.specs.Eliminations.{is_in, before_both}
 use Rattle.stn_walk.specs.Joins.{joined_of, HasPath}
 use Rattle.stn_walk.proofs.Eliminations.{cell-least}
 use Rattle.stn_walk.proofs.Joins.{path-from_joined, joined-from_path}
 use Rattle.elim_step.specs.declared.summary.SummaryEntry.{SummaryEntry}
-use Rattle.elim_step.specs.Summaries.{is_valid, is_less, is_summary}
-use Rattle.elim_step.specs.Eliminated.{forward_of}
-use Rattle.elim_step.proofs.Weights.{before-whole, before-in, forward-whole}
-use Rattle.private_elim.specs.Locals.{LocalView, local_of, arcs_in, point_at, place_in, private_at, passes_at, is_private_in, is_seen_in, horizon_in}
+use Rattle.elim_step.specs.Summaries.{is_valid, is_summary}
+use Rattle.elim_step.proofs.Weights.{before-whole, forward-whole}
+use Rattle.private_elim.specs.Locals.{local_of, arcs_in, point_at, place_in, private_at, passes_at, is_private_in, is_seen_in, horizon_in}
 use Rattle.private_elim.specs.ReducedViews.{entry_of, IsReduced}
 use Rattle.private_elim.specs.Taken.{TakenView, HasTaken}
-use Rattle.private_elim.specs.SummaryRows.{is_pair_at, joined_at, weight_at, entry_at, rows_below}
+use Rattle.private_elim.specs.SummaryRows.{is_pair_at, joined_at, forward_at, entry_at, rows_below}
 use Rattle.private_elim.proofs.Places.{place_found}
 use Rattle.private_elim.proofs.Parts.{Contains-map}
 use Rattle.private_elim.proofs.LocalFacts.{rises, place_of_point_at, horizon_is, arcs_of_net, private_of_net, seen_of_net, horizon_of_net}
 use Rattle.private_elim.proofs.NoConflicts.{no_own_conflict}
-use Rattle.private_elim.proofs.TakenFacts.{taken_private, forward_light, least_same, none_below_same, none_below_within}
-use Rattle.private_elim.proofs.RowFacts.{IsLess, IsEarlier, IsEntry, HasEntries, all_entries, is_summary-from_rising}
+use Rattle.private_elim.proofs.TakenFacts.{taken_private, forward_light, least_through, none_below_through, none_below_within}
+use Rattle.private_elim.proofs.RowFacts.{IsLess, IsEntry, HasEntries, all_entries, is_summary-from_rising}
 
 -- two tests with the same answer
 same_answer : (a b : Bool) → (a ≡ true → b ≡ true) → (b ≡ true → a ≡ true) → a ≡ b
@@ -62,8 +58,8 @@ light_entry h (Some w) low high light =
 valid_at : (p q n : ℕ) → p ≢ q → n ≤ 9007199254740992 → (not (p == q) && nat_le n 9007199254740992) ≡ true
 valid_at p q n apart low = grind (arith, nat_tests)
 
--- two numbers below another
-at_least_two : (i j n : ℕ) → i < n → j < n → i ≢ j → 1 < n
+-- a list with two places has more than one
+pub at_least_two : (i j n : ℕ) → i < n → j < n → i ≢ j → 1 < n
 at_least_two i j n li lj apart = elim (cases_lt i j) [ inl less ↦ omega arith | inr more ↦ omega arith ]
 
 -- the pairs of a list that rises are different
@@ -139,7 +135,7 @@ module _ (t : TakenView) (h : HasTaken t) where
       let horizon = horizon_is t.local h.known some in
       let low : pos 0 ≤ℤ horizon_in t.local = subst (λ z. pos 0 ≤ℤ z) (sym horizon) h.known.valid.horizon_low in
       let high : horizon_in t.local ≤ℤ pos 1099511627776 = subst (λ z. z ≤ℤ pos 1099511627776) (sym horizon) h.known.valid.horizon_high in
-      let light = light_entry (horizon_in t.local) (weight_at t g.start g.end) low high (forward_light t h (point_at t.local.points g.start) (point_at t.local.points g.end)) in
+      let light = light_entry (horizon_in t.local) (forward_at t g.start g.end) low high (forward_light t h (point_at t.local.points g.start) (point_at t.local.points g.end)) in
       subst (λ x. is_valid x ≡ true) (sym g.is) (valid_at (point_at t.local.points g.start) (point_at t.local.points g.end) (nat_abs (entry_at t g.start g.end).weight) ends light)
 
   entries : HasEntries t (length t.local.points) 0 (rows_below t (length t.local.points))
@@ -160,21 +156,21 @@ module _ (t : TakenView) (h : HasTaken t) where
     pub none_below_private : NoNegative (is_private_of net t.local.agent) (own_arcs net t.local.agent)
     none_below_private =
         subst (NoNegative (is_private_of net t.local.agent)) (arcs_of_net t.local net e)
-        (none_below_same (is_in (reverse t.order)) (is_private_of net t.local.agent) taken_is (arcs_in t.local) h.none_below)
+        (none_below_through (is_in (reverse t.order)) (is_private_of net t.local.agent) taken_is (arcs_in t.local) h.none_below)
 
     -- the weight between two places of which none is private is an inner weight through private points
     weight_is : (i j : ℕ) → i < length t.local.points → j < length t.local.points → private_at t.local i ≡ false → private_at t.local j ≡ false
-        → IsInnerWeight (is_private_of net t.local.agent) (own_arcs net t.local.agent) (point_at t.local.points i) (point_at t.local.points j) (weight_at t i j)
+        → IsInnerWeight (is_private_of net t.local.agent) (own_arcs net t.local.agent) (point_at t.local.points i) (point_at t.local.points j) (forward_at t i j)
     weight_is i j li lj si sj =
         let p = point_at t.local.points i in
         let q = point_at t.local.points j in
-        let cell : IsInnerLeast (is_in (reverse t.order)) (arcs_in t.local) p q (weight_at t i j) =
+        let cell : IsInnerLeast (is_in (reverse t.order)) (arcs_in t.local) p q (forward_at t i j) =
         subst (IsInnerLeast (is_in (reverse t.order)) (arcs_in t.local) p q) (sym (forward-whole (arcs_in t.local) (reverse t.order) p q (left_here i li si) (left_here j lj sj)))
         (cell-least (arcs_in t.local) (reverse t.order) h.none_below p q) in
         record {
           sound = none_below_within (is_private_of net t.local.agent) (own_arcs net t.local.agent) none_below_private;
-          least = subst (λ arcs. IsInnerLeast (is_private_of net t.local.agent) arcs p q (weight_at t i j)) (arcs_of_net t.local net e)
-              (least_same (is_in (reverse t.order)) (is_private_of net t.local.agent) taken_is (arcs_in t.local) p q (weight_at t i j) cell);
+          least = subst (λ arcs. IsInnerLeast (is_private_of net t.local.agent) arcs p q (forward_at t i j)) (arcs_of_net t.local net e)
+              (least_through (is_in (reverse t.order)) (is_private_of net t.local.agent) taken_is (arcs_in t.local) p q (forward_at t i j) cell);
         }
 
     -- a place is seen by others where it is not private
@@ -209,9 +205,9 @@ module _ (t : TakenView) (h : HasTaken t) where
     pub entry_is : (i j : ℕ) → i < length t.local.points → j < length t.local.points → Pair i j
         → IsEntryWeight net t.local.agent (point_at t.local.points i) (point_at t.local.points j) (entry_at t i j).weight
     entry_is i j li lj p = (
-      weight_at t i j,
+      forward_at t i j,
       weight_is i j li lj p.start_seen p.end_seen,
-      ap (λ z. entry_weight z (weight_at t i j)) (horizon_of_net t.local net e (at_least_two i j (length t.local.points) li lj p.apart)),
+      ap (λ z. entry_weight z (forward_at t i j)) (horizon_of_net t.local net e (at_least_two i j (length t.local.points) li lj p.apart)),
     )
 
     -- a place of a point that others see

@@ -1,11 +1,9 @@
 -- What is known where private points are taken: forward weights, and what they are of a network.
-use Rattle.std.proofs.Common.{◌≡◌, ◌≢◌, ℕ, ◌<◌, ◌≤◌, List, [], ◌∷◌, Bool, true, false, ◌||◌, Option, Some, None, length, reverse, refl, sym, ap, subst, ◌∙◌, arith}
-use Rattle.std.specs.Prelude.{ℤ, pos, ◌≤ℤ◌, ◌==◌, IfSome, nat_abs}
+use Rattle.std.proofs.Common.{◌≡◌, ◌≢◌, ℕ, ◌≤◌, List, [], ◌∷◌, Bool, true, false, ◌||◌, Option, Some, None, reverse, refl, sym, subst, ◌∙◌, arith}
+use Rattle.std.specs.Prelude.{ℤ, ◌==◌, IfSome, nat_abs}
 use Rattle.std.specs.List.{AllByRecursion, Contains}
-use Rattle.std.proofs.lemmas.Bool.{false_from_ne_true, false≢true}
+use Rattle.std.proofs.lemmas.Bool.{false≢true}
 use Rattle.std.proofs.lemmas.Bool.Decides.{nat_tests}
-use Rattle.std.proofs.lemmas.Int.{ints}
-use Rattle.std.proofs.lemmas.List.Elements.{All-contains}
 use Rattle.stn_model.specs.declared.ids.Constraint.{Constraint}
 use Rattle.stn_model.specs.ArcWalks.{NoNegative, IsInner, IsInnerLeast, GoesOn}
 use Rattle.stn_model.specs.Inner.{NoNegativeWithin, IsInnerWeight}
@@ -36,18 +34,18 @@ in_all P (x ∷ xs) p all here =
 
 -- walks through points of one set, where the other set has the same points
 module _ (inner other : ℕ → Bool) (same : (p : ℕ) → inner p ≡ other p) (arcs : List Constraint) where
-  pub inner_same : (i j : ℕ) (w : List Constraint) → IsInner inner arcs i j w → IsInner other arcs i j w
-  inner_same i j w = inner_in inner other arcs i j w (λ p h. sym (same p) ∙ h)
+  inner_through : (i j : ℕ) (w : List Constraint) → IsInner inner arcs i j w → IsInner other arcs i j w
+  inner_through i j w = inner_in inner other arcs i j w (λ p h. sym (same p) ∙ h)
 
   inner_back : (i j : ℕ) (w : List Constraint) → IsInner other arcs i j w → IsInner inner arcs i j w
   inner_back i j w = inner_in other inner arcs i j w (λ p h. same p ∙ h)
 
-  pub none_below_same : NoNegative inner arcs → NoNegative other arcs
-  none_below_same h p w g = h p w (inner_back p p w g)
+  pub none_below_through : NoNegative inner arcs → NoNegative other arcs
+  none_below_through h p w g = h p w (inner_back p p w g)
 
-  pub least_same : (i j : ℕ) (o : Option ℤ) → IsInnerLeast inner arcs i j o → IsInnerLeast other arcs i j o
-  least_same i j None h = λ w g. h w (inner_back i j w g)
-  least_same i j (Some b) h = ((h.0.0, inner_same i j h.0.0 h.0.1, h.0.2), λ w g. h.1 w (inner_back i j w g))
+  pub least_through : (i j : ℕ) (o : Option ℤ) → IsInnerLeast inner arcs i j o → IsInnerLeast other arcs i j o
+  least_through i j None h = λ w g. h w (inner_back i j w g)
+  least_through i j (Some b) h = ((h.0.0, inner_through i j h.0.0 h.0.1, h.0.2), λ w g. h.1 w (inner_back i j w g))
 
 -- no closed walk is negative, so none is whose ends are in the set too
 pub none_below_within : (inner : ℕ → Bool) (arcs : List Constraint) → NoNegative inner arcs → NoNegativeWithin inner arcs

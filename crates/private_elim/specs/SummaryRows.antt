@@ -1,4 +1,4 @@
--- The entries of a summary, pair by pair, where all private points are taken: weight_at, is_pair_at, entry_at, pair_entries, row_below, row_of,
+-- The entries of a summary, pair by pair, where all private points are taken: forward_at, is_pair_at, entry_at, pair_entries, row_below, row_of,
 -- rows_below, is_over.
 use Rattle.std.specs.Prelude.{ℕ, zero, suc, ℤ, int_lt, List, [], ◌∷◌, ◌++◌, length, reverse, Bool, true, ◌&&◌, not, ◌==◌, Option, Some, None, if◌then◌else◌}
 use Rattle.stn_model.specs.Summaries.{entry_weight}
@@ -10,8 +10,8 @@ use Rattle.private_elim.specs.Locals.{arcs_in, point_at, private_at, horizon_in}
 use Rattle.private_elim.specs.Taken.{TakenView}
 
 -- the forward weight between two places
-abbrev pub weight_at : TakenView → ℕ → ℕ → Option ℤ
-weight_at t i j = forward_of (arcs_in t.local) (reverse t.order) (point_at t.local.points i) (point_at t.local.points j)
+abbrev pub forward_at : TakenView → ℕ → ℕ → Option ℤ
+forward_at t i j = forward_of (arcs_in t.local) (reverse t.order) (point_at t.local.points i) (point_at t.local.points j)
 
 -- whether two places are joined
 abbrev pub joined_at : TakenView → ℕ → ℕ → Bool
@@ -28,7 +28,7 @@ abbrev pub entry_at : TakenView → ℕ → ℕ → SummaryEntry
 entry_at t i j = record {
   from = record { 0 = point_at t.local.points i };
   to = record { 0 = point_at t.local.points j };
-  weight = entry_weight (horizon_in t.local) (weight_at t i j);
+  weight = entry_weight (horizon_in t.local) (forward_at t i j);
 }
 
 -- the entry from one place to another, where there is one

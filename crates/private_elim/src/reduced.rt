@@ -1,5 +1,5 @@
 //! A local problem whose private points are all taken: its summary, the weights between its points, and their walks.
-ghost use Rattle.std.specs.Prelude.{◌≡◌, ◌≢◌, ℕ, ◌<◌, ◌*◌, ◌-◌, [], ◌∷◌, true, false, ◌&&◌, Some, None, IfOk, is_some, length, reverse, map};
+ghost use Rattle.std.specs.Prelude.{◌≡◌, ◌≢◌, ◌<◌, ◌*◌, ◌-◌, [], ◌∷◌, true, false, ◌&&◌, Some, None, IfOk, is_some, length, reverse, map};
 ghost use Rattle.stn_model.specs.Net.{arcs_of};
 ghost use Rattle.stn_model.specs.Walks as walks;
 ghost use Rattle.stn_model.specs.Inner.{IsInnerWeight};
@@ -7,7 +7,7 @@ ghost use Rattle.stn_walk.specs.Eliminations.{is_in, before_both};
 ghost use Rattle.private_elim.specs.Locals.{arcs_in, is_point_of, horizon_in};
 ghost use Rattle.private_elim.specs.ReducedViews.{weight_between, IsReduced};
 ghost use Rattle.private_elim.specs.Reductions.{OfNetwork, AreOwn};
-ghost use Rattle.private_elim.specs.SummaryRows.{is_pair_at, weight_at, is_over};
+ghost use Rattle.private_elim.specs.SummaryRows.{is_pair_at, forward_at, is_over};
 
 use crate::elimination::Elimination;
 use crate::numbers::numbers_of;
@@ -72,14 +72,14 @@ impl Reduced {
     }
 
     /// A walk of own arcs, by their numbers in the network, for a pair that has an entry of the summary or a forward weight: its
-    /// weight is that of the entry where the pair has one, and else the forward weight.
+    /// weight is that of the entry where the pair has one, and else the forward weight. OutOfMemory where memory runs out.
     pub fn walk(&self, alloc: Global, i: PointId, j: PointId) -> Result<Walk, OutOfMemory>
         requires { is_some (weight_between self.now i.0 j.0) ≡ true }
         ensures walk { IfOk result (λ w. OfNetwork self.now.local (λ net. walks.IsWalk (arcs_of net) i.0 j.0 w)) }
         ensures own { IfOk result (λ w. OfNetwork self.now.local (λ net. AreOwn net self.now.local.agent w)) }
         ensures weight { IfOk result (λ w. OfNetwork self.now.local (λ net. Some (walks.weight (arcs_of net) w) ≡ weight_between self.now i.0 j.0)) }
     {
-        // As in `forward`.
+        // As in `forward`: no closed walk through taken points is negative.
         let _size = self.part.size();
         let local = self.part.local();
         let Some(from) = local.place_of(i) else {
@@ -97,7 +97,7 @@ impl Reduced {
         Ok(Walk::new(numbers))
     }
 
-    /// An equal reduced local problem.
+    /// An equal reduced local problem, or OutOfMemory.
     pub fn copy(&self, alloc: Global) -> Result<Reduced, OutOfMemory>
         ensures { IfOk result (λ r. r ≡ self.now) }
     {
@@ -112,7 +112,7 @@ impl Reduced {
 fn is_detour(part: &Elimination, from: u32, to: u32) -> bool
     requires within { (from < length part.now.local.points) × (to < length part.now.local.points) }
     requires apart { from ≢ to }
-    ensures { result ≡ (is_pair_at part.now from to && is_over (horizon_in part.now.local) (weight_at part.now from to)) }
+    ensures { result ≡ (is_pair_at part.now from to && is_over (horizon_in part.now.local) (forward_at part.now from to)) }
 {
     is_pair(part, from, to) && is_over(part.local().horizon(), part.weight(from, to))
 }

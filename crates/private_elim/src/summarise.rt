@@ -1,5 +1,5 @@
 //! The summary of an agent whose private points are all taken.
-ghost use Rattle.std.specs.Prelude.{◌≡◌, ◌≢◌, ℕ, ◌<◌, ◌++◌, neg_ℤ, pos, ◌≤ℤ◌, true, IfOk, length, reverse};
+ghost use Rattle.std.specs.Prelude.{◌≡◌, ◌≢◌, ℕ, ◌<◌, ◌++◌, true, IfOk, length, reverse};
 ghost use Rattle.stn_model.specs.Summaries as summaries;
 ghost use Rattle.stn_walk.specs.Eliminations.{is_in};
 ghost use Rattle.private_elim.specs.Locals.{is_private_in};
@@ -12,7 +12,7 @@ use elim_step::{Summary, SummaryEntry};
 use std::alloc::Global;
 use stn_model::OutOfMemory;
 
-/// The reduced local problem, once all private points are taken.
+/// The reduced local problem, once all private points are taken, or OutOfMemory.
 pub fn summarise(alloc: Global, part: Elimination) -> Result<Reduced, OutOfMemory>
     requires whole { (p : ℕ) → is_private_in part.local p ≡ true → is_in (reverse part.order) p ≡ true }
     ensures local { IfOk result (λ r. r.local ≡ part.local) }

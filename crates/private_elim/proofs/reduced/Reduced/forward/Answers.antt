@@ -1,4 +1,4 @@
-use Rattle.std.proofs.Common.{sym, ◌∙◌}
+use Rattle.std.proofs.Common.{sym}
 use Rattle.private_elim.proofs.Forwards.{place_within, forward_from_strange, forward_to_strange, forward_between}
 use Rattle.private_elim.proofs.reduced.Reduced.forward.Goals as goal
 
