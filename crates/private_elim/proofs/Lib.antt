@@ -6,6 +6,9 @@ pub mod OwnArcs
 pub mod Parts
 pub mod LocalFacts
 pub mod Windows
+pub mod TakenFacts
+pub mod Forwards
+pub mod RowFacts
 pub mod Unfolding
 pub mod OriginFacts
 pub mod Counts
@@ -19,5 +22,9 @@ pub mod Failing
 pub mod FailingCycles
 pub mod DegreeFacts
 pub mod CandidateFacts
-
 pub mod Choices
+pub mod SumsUp
+pub mod EntryLookups
+pub mod Between
+pub mod Detours
+pub mod ReducedWalks

@@ -11,6 +11,7 @@ pub mod Reductions
 pub mod Backs
 pub mod Held
 pub mod Laws
+pub mod SummaryRows
 pub mod Unfolds
 pub mod Laid
 pub mod Numbers

@@ -8,7 +8,7 @@ use crate::local::Local;
 use std::alloc::Global;
 use stn_model::OutOfMemory;
 
-/// The numbers in the network of the arcs at these places.
+/// The numbers in the network of the arcs at these places, or OutOfMemory.
 pub(crate) fn numbers_of(
     alloc: Global,
     local: &Local,
