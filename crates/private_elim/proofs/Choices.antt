@@ -3,7 +3,7 @@ use Rattle.std.proofs.Common.{zero, suc, ◌≡◌, ◌≢◌, ℕ, ◌+◌, ◌
 use Rattle.std.specs.Prelude.{◌==◌, if◌then◌else◌, filter, reverse, slice_index, slice_index_or}
 use Rattle.std.specs.List.{AllByRecursion}
 use Rattle.std.proofs.lemmas.Bool.Decides.{nat_tests}
-use Rattle.std.proofs.lemmas.List.{length-map, get_or-map, get_or-take, length-take-le}
+use Rattle.std.proofs.lemmas.List.{length-map, get_or-map, get_or-take, length-take-le, length-reverse}
 use Rattle.stn_model.specs.declared.ids.PointId.{PointId}
 use Rattle.stn_model.specs.Walks.{AllDifferent}
 use Rattle.stn_walk.specs.Eliminations.{is_in}
@@ -13,10 +13,12 @@ use Rattle.elim_step.specs.declared.pick.Candidate.{Candidate}
 use Rattle.elim_step.specs.Picks.{candidate_at}
 use Rattle.elim_step.specs.Eliminated.{point_at}
 use Rattle.private_elim.specs.Locals.{LocalView, IsLocal, is_private_in, place_in, private_at, passes_at}
-use Rattle.private_elim.specs.Taken.{TakenView, HasTaken}
-use Rattle.private_elim.specs.Picked.{AreCandidates}
+use Rattle.private_elim.specs.Taken.{TakenView, HasTaken, StopsAt}
+use Rattle.private_elim.specs.Picked.{AreCandidates, IsPicked, ArePicked}
 use Rattle.private_elim.specs.Candidates.{is_left}
-use Rattle.private_elim.specs.Outcomes.{IsNext}
+use Rattle.private_elim.specs.declared.outcome.PrivateOutcome.{PrivateOutcome}
+use Rattle.private_elim.specs.declared.outcome.PrivateOutcome.TheVariants.{Reduced, Conflict}
+use Rattle.private_elim.specs.Outcomes.{IsNext, IsReducedFrom, IsConflictFrom, IsListedOutcome, IsPickedOutcome, IsReducedWith}
 use Rattle.private_elim.proofs.LocalFacts.{points_small}
 use Rattle.private_elim.proofs.Places.{place_found, place_missing}
 
@@ -145,3 +147,44 @@ listed_next t order n place lt taken private once e =
       each [] n lt all = absurd (omega arith)
       each (p ∷ ps) zero lt all = all.0
       each (p ∷ ps) (suc n) lt all = each ps n (omega arith) all.1
+
+-- the answer for a given order, once all of it is taken
+pub listed_reduced : (v : LocalView) (t : TakenView) (order : List ℕ) (o : PrivateOutcome) → t.local ≡ v → t.order ≡ order → IsReducedFrom t o → IsListedOutcome v order o
+listed_reduced v t order (Reduced r) local is h = rw (sym local, sym is) h
+listed_reduced v t order (Conflict walk place other) local is h = absurd h
+
+-- and where a point of it fails
+pub listed_conflict : (v : LocalView) (t : TakenView) (order : List ℕ) (n : ℕ) (q : ℕ) (o : PrivateOutcome) → t.local ≡ v → n < length order → t.order ≡ take n order
+    → StopsAt t.local (reverse t.order) (slice_index order n) q → IsConflictFrom t q o → IsListedOutcome v order o
+listed_conflict v t order n q (Reduced r) local lt is stops h = absurd h
+listed_conflict v t order n q (Conflict walk place other) local lt is stops h =
+    let many : length t.order ≡ n = ap (λ (xs : List ℕ). length xs) is ∙ length-take-le n order (omega arith) in
+    let at : place ≡ n = h.1 ∙ many in (
+      rw (sym local) h.0,
+      omega arith,
+      rw (at, h.2, sym local, sym is) stops,
+    )
+
+-- the answer for an order that the picker allows, once no private point is left
+pub picked_reduced : (answers : ℕ → ℕ → ℕ → Type 0) (v : LocalView) (t : TakenView) (o : PrivateOutcome) → t.local ≡ v → ArePicked answers t.local (reverse t.order) → IsReducedFrom t o → IsPickedOutcome answers v o
+picked_reduced answers v t (Reduced r) local picked h = (
+  subst (λ w. IsReducedWith w r.order r) local (subst (λ xs. IsReducedWith t.local xs r) (sym h.order_is) h),
+  subst (λ w. ArePicked answers w (reverse r.order)) local (subst (λ xs. ArePicked answers t.local (reverse xs)) (sym h.order_is) picked),
+)
+picked_reduced answers v t (Conflict walk place other) local picked h = absurd h
+
+-- and where the point that was picked fails
+pub picked_conflict : (answers : ℕ → ℕ → ℕ → Type 0) (v : LocalView) (t : TakenView) (p q : ℕ) (o : PrivateOutcome) → t.local ≡ v → ArePicked answers t.local (reverse t.order) → IsPicked answers t.local (reverse t.order) p
+    → StopsAt t.local (reverse t.order) p q → IsConflictFrom t q o → IsPickedOutcome answers v o
+picked_conflict answers v t p q (Reduced r) local picked next stops h = absurd h
+picked_conflict answers v t p q (Conflict walk place other) local picked next stops h = (
+  rw (sym local) h.0,
+  rw (sym local) (record {
+    taken = reverse t.order;
+    picked = picked;
+    many = length-reverse t.order ∙ sym h.1;
+    next = p;
+    next_picked = next;
+    stops = rw h.2 stops;
+  }),
+)

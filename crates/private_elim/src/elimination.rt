@@ -56,7 +56,7 @@ impl Elimination {
         requires left { is_in (reverse self.old.order) (point_at self.old.local.points place) ≡ false }
         ensures local { self.new.local ≡ self.old.local }
         ensures taken { IfOk result (λ r. MatchOption r (self.new.order ≡ self.old.order ++ point_at self.old.local.points place ∷ [])
-            (λ other. (self.new.order ≡ self.old.order)
+            (λ other. (other < length self.old.local.points) × (self.new.order ≡ self.old.order)
             × StopsAt self.old.local (reverse self.old.order) (point_at self.old.local.points place) (point_at self.old.local.points other))) }
         ensures err { OnErr result (self.new ≡ self.old) }
     {

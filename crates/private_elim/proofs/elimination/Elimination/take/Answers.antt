@@ -54,7 +54,7 @@ returns-in-Negative-clause-taken g c =
     let within = (rw (← c.self.view_is) at c.requires.within) in
     let left = (rw (← c.self.view_is) at c.requires.left) in
     let stops = stops_at v (map (λ (p : PointId). p.0) e.order.items) (cell_at e.rows.size e.rows.slots.items) (is_joined e.joins) e.remain.items h.taken place c.in-Negative.other within left none step.0 step.1 in
-    rw (← c.self.view_is) (ap (map (λ (p : PointId). p.0)) c.reserve.ensures.items, stops.1)
+    rw (← c.self.view_is) (stops.0, ap (map (λ (p : PointId). p.0)) c.reserve.ensures.items, stops.1)
 
 pub recount-requires-clause-within : goal.recount-requires-clause-within
 recount-requires-clause-within g c p here = rw c.join_all.ensures.size (c.in_ok-met.ensures.within p (rw c.as_slice-in-Clear-3.ensures.value at here))

@@ -1,0 +1,30 @@
+use Rattle.std.proofs.Common.{◌≡◌, ◌++◌, ◌∷◌, [], ℕ, ◌<◌, None, Some, ap, sym, ◌∙◌, arith, rules, map, take, length, subst, get_or, List}
+use Rattle.std.specs.Prelude.{reverse, slice_index, MatchOption, true}
+use Rattle.std.proofs.lemmas.List.{take_more, take_all, length-map}
+use Rattle.std.proofs.lemmas.Result.{IfOk-weaker}
+use Rattle.stn_model.specs.declared.ids.PointId.{PointId}
+use Rattle.elim_step.specs.Eliminated.{point_at}
+use Rattle.stn_walk.specs.Eliminations.{is_in}
+use Rattle.private_elim.specs.Locals.{LocalView, is_private_in}
+use Rattle.private_elim.specs.Taken.{TakenView, StopsAt, Fails}
+use Rattle.private_elim.specs.Outcomes.{IsReducedFrom, IsConflictFrom, IsListedOutcome}
+use Rattle.private_elim.proofs.Choices.{listed_reduced, listed_conflict}
+use Rattle.private_elim.proofs.eliminate.take_listed.Goals as goal
+
+pub conflict-requires-clause-within : goal.conflict-requires-clause-within
+conflict-requires-clause-within g c =
+    let stops = (rw c.in-Some.is at c.in_ok-other.ensures.taken) in
+    rw c.in_ok-other.ensures.local (c.listed_place-place.ensures.within, stops.0)
+
+pub reduced-requires : goal.reduced-requires
+reduced-requires g c =
+    let xs = map (λ (p : PointId). p.0) c.args.order.now in
+    let all : take c.loop-n.n xs ≡ xs = take_all c.loop-n.n xs (omega (arith, length-map c.args.order.now (λ (p : PointId). p.0), c.loop-n-test.false)) in
+    λ p private. ap (λ ys. is_in (reverse ys) p) (c.loop-n.invariant.taken ∙ all) ∙ c.requires.whole p (ap (λ (v : LocalView). is_private_in v p) (sym c.loop-n.invariant.local) ∙ private)
+
+pub returns : goal.returns
+returns g c =
+    let xs = map (λ (p : PointId). p.0) c.args.order.now in
+    let all : take c.loop-n.n xs ≡ xs = take_all c.loop-n.n xs (omega (arith, length-map c.args.order.now (λ (p : PointId). p.0), c.loop-n-test.false)) in
+    IfOk-weaker c.reduced.result (IsReducedFrom c.loop-n.part) (IsListedOutcome c.args.part.local xs)
+    (λ o h. listed_reduced c.args.part.local c.loop-n.part xs o c.loop-n.invariant.local (c.loop-n.invariant.taken ∙ all) h) c.reduced.ensures
