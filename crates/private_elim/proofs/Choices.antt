@@ -20,6 +20,7 @@ use Rattle.private_elim.specs.declared.outcome.PrivateOutcome.{PrivateOutcome}
 use Rattle.private_elim.specs.declared.outcome.PrivateOutcome.TheVariants.{Reduced, Conflict}
 use Rattle.private_elim.specs.Outcomes.{IsNext, IsReducedFrom, IsConflictFrom, IsListedOutcome, IsPickedOutcome, IsReducedWith}
 use Rattle.private_elim.proofs.LocalFacts.{points_small}
+use Rattle.private_elim.proofs.Takes.{order_push}
 use Rattle.private_elim.proofs.Places.{place_found, place_missing}
 
 -- a private point has a place
@@ -188,3 +189,16 @@ picked_conflict answers v t p q (Conflict walk place other) local picked next st
     stops = rw h.2 stops;
   }),
 )
+
+-- the same of a state that is equal
+pub picked_stop : (answers : ℕ → ℕ → ℕ → Type 0) (v : LocalView) (t u : TakenView) (p q : ℕ) (o : PrivateOutcome) → u.local ≡ t.local → u.order ≡ t.order → t.local ≡ v → ArePicked answers t.local (reverse t.order)
+    → IsPicked answers t.local (reverse t.order) p → StopsAt t.local (reverse t.order) p q → IsConflictFrom u q o → IsPickedOutcome answers v o
+picked_stop answers v t u p q o e_local e_order local picked next stops h =
+    let same : u ≡ t = (λ i. record { local = e_local i; order = e_order i }) in
+    picked_conflict answers v t p q o local picked next stops (subst (λ (w : TakenView). IsConflictFrom w q o) same h)
+
+-- one point more was picked
+pub picked_more : (answers : ℕ → ℕ → ℕ → Type 0) (t u : TakenView) (p : ℕ) → u.local ≡ t.local → u.order ≡ t.order ++ p ∷ [] → ArePicked answers t.local (reverse t.order)
+    → IsPicked answers t.local (reverse t.order) p → ArePicked answers u.local (reverse u.order)
+picked_more answers t u p local is picked next =
+    subst (λ w. ArePicked answers w (reverse u.order)) (sym local) (subst (ArePicked answers t.local) (sym (ap reverse is ∙ order_push t.order p)) (next, picked))
