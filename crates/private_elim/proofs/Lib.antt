@@ -28,3 +28,4 @@ pub mod EntryLookups
 pub mod Between
 pub mod Detours
 pub mod ReducedWalks
+pub mod Answered
