@@ -3,5 +3,6 @@ pub mod Searches
 pub mod Owned
 pub mod SharedPoints
 pub mod OwnArcs
+pub mod Parts
 pub mod LocalFacts
 pub mod Windows

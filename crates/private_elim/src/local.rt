@@ -45,7 +45,7 @@ impl Model for Local {
 }
 
 impl Local {
-    /// The local problem of an agent.
+    /// The local problem of an agent, or OutOfMemory.
     pub fn of(alloc: Global, net: &Network, agent: AgentId) -> Result<Local, OutOfMemory>
         requires { agent.0 < length net.now.agents }
         ensures { IfOk result (λ l. l ≡ local_of net.now agent.0) }
@@ -62,7 +62,7 @@ impl Local {
     }
 
     /// This local problem with two arcs more for each window, in the windows' order: its point lies from `lo` to `hi` after the reference
-    /// point.
+    /// point. A window is of one of the points but the reference point, and `lo` and `hi` lie from 0 to 2^40.
     ///
     /// OutOfMemory where memory runs out, or where there would be 2^32 arcs or more.
     pub fn narrowed(&self, alloc: Global, windows: &[Window]) -> Result<Local, OutOfMemory>
@@ -147,7 +147,7 @@ impl Local {
         self.arcs.len() as u32
     }
 
-    /// The arc at a place among the arcs.
+    /// The arc at a place among the arcs: first the agent's own arcs by number, then those that [`Local::narrowed`] added.
     pub fn arc(&self, k: u32) -> LocalArc
         requires { k < length self.now.arcs }
         ensures { result ≡ local_arc_at self.now.arcs k }
