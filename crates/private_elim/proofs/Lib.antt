@@ -6,3 +6,6 @@ pub mod OwnArcs
 pub mod Parts
 pub mod LocalFacts
 pub mod Windows
+pub mod OwnWalks
+pub mod Orders
+pub mod SweepParts

@@ -10,3 +10,4 @@ pub mod Reductions
 pub mod Backs
 pub mod Held
 pub mod Laws
+pub mod Sweeps
