@@ -9,3 +9,4 @@ pub mod Windows
 pub mod OwnWalks
 pub mod Orders
 pub mod SweepParts
+pub mod Sweeps

@@ -152,7 +152,7 @@ module _ (v : LocalView) (order : List ℕ) (f : ℕ → ℕ → Option Cell) (j
     abbrev pub left : List ℕ
     left = reverse (take n order)
 
-    cut : reverse order ≡ reverse (drop (n + 1) order) ++ point_at v.points k ∷ left
+    pub cut : reverse order ≡ reverse (drop (n + 1) order) ++ point_at v.points k ∷ left
     cut = reverse-cut order n lt ∙ ap (λ p. reverse (drop (n + 1) order) ++ p ∷ left) (sym is)
 
     -- it is not among them
