@@ -17,15 +17,16 @@ use Rattle.stn_walk.specs.Eliminations.{is_in, before_both, cell_of}
 use Rattle.stn_walk.specs.Joins.{joined_of}
 use Rattle.stn_walk.proofs.Eliminations.{cell-least}
 use Rattle.stn_walk.proofs.Joins.{is_in-reverse, joined-symmetric, joined-from_walk, joined-from_order, order-from_joined}
+use Rattle.stn_walk.proofs.Different.{few_different}
 use Rattle.stn_walk.proofs.LightWalks.{IsBelow, HasBounds, least_light}
 use Rattle.dist_rows.specs.declared.cell.Cell.{Cell}
 use Rattle.elim_step.specs.Eliminated.{weight_at, forward_of}
 use Rattle.elim_step.proofs.Weights.{before-in}
 use Rattle.elim_step.proofs.Sound.{inner_in}
 use Rattle.elim_step.proofs.FinalWeights.{IsApart}
-use Rattle.private_elim.specs.Locals.{LocalView, arcs_in, point_at, private_at, passes_at, is_private_in}
+use Rattle.private_elim.specs.Locals.{LocalView, arcs_in, point_at, private_at, place_in, passes_at, is_private_in}
 use Rattle.private_elim.specs.Taken.{IsTaken}
-use Rattle.private_elim.proofs.Places.{Rises, place_contained}
+use Rattle.private_elim.proofs.Places.{Rises, place_found, place_contained}
 use Rattle.private_elim.proofs.LocalFacts.{rises, place_of_point_at, points_small, arc_joins}
 use Rattle.private_elim.proofs.Orders.{in-first, in-behind, before-at, before-turned, different-reverse, different-behind}
 
@@ -81,6 +82,20 @@ module _ (v : LocalView) (order : List ℕ) (f : ℕ → ℕ → Option Cell) (j
   -- the points of the order are private
   pub order_private : (p : ℕ) → is_in order p ≡ true → is_private_in v p ≡ true
   order_private = in_all (λ p. is_private_in v p ≡ true) order t.private
+
+  -- there are at most 4096
+  pub few_order : length order ≤ 4096
+  few_order = few_different 4096 order t.once (small order t.private) where
+    small : (ps : List ℕ) → AllByRecursion (λ p. is_private_in v p ≡ true) ps → AllByRecursion (λ p. p < 4096) ps
+    small [] h = tt
+    small (p ∷ ps) h = (point_small p (place_in v.points p) refl h.0, small ps h.1) where
+      point_small : (p : ℕ) (o : Option ℕ) → place_in v.points p ≡ o → passes_at (private_at v) o ≡ true → p < 4096
+      point_small p None e private = absurd (false≢true private)
+      point_small p (Some k) e private =
+          let found = place_found v.points p k e in
+          let low = points_small v t.known k 0 found.0 in
+          let is = found.1 in
+          omega arith
 
   -- joined places are joined in the order, and the other way round
   pub joined_in_order : (i j : ℕ) → i < length v.points → j < length v.points → i ≢ j → joined i j ≡ true

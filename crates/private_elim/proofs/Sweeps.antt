@@ -1,11 +1,10 @@
 -- One more private point is revisited in a back sweep.
 --   by_pair          what holds of the pairs that a revisit sets, and of all others, holds of all pairs
 --   sum_light        a sum of two light weights
---   ready            what a revisit asks
+--   some_later, not_later, no_cells, finals_light   what a revisit asks
 --   swept_more       what it gives
-use Rattle.std.proofs.Common.{suc, ◌≡◌, ◌≢◌, ℕ, ◌+◌, ◌-◌, ◌*◌, ◌^◌, ◌<◌, ◌≤◌, List, [], ◌∷◌, ◌++◌, Bool, true, false, ◌&&◌, ◌||◌, not, Option, Some, None, length, take, drop, set, reverse, refl, sym, ap, subst, ◌∙◌, arith, length-set, get_or-set_same, get_or-set_other}
+use Rattle.std.proofs.Common.{suc, ◌≡◌, ◌≢◌, ℕ, ◌+◌, ◌-◌, ◌*◌, ◌^◌, ◌<◌, ◌≤◌, List, [], ◌∷◌, ◌++◌, Bool, true, false, ◌&&◌, ◌||◌, not, Option, Some, None, length, take, drop, set, reverse, refl, sym, ap, subst, ◌∙◌, arith, inl, length-set, get_or-set_same, get_or-set_other}
 use Rattle.std.specs.Prelude.{ℤ, pos, ◌==◌, is_some, IfSome, nat_abs, if◌then◌else◌}
-use Rattle.std.specs.List.{AllPairs}
 use Rattle.std.proofs.lemmas.Bool.{false≢true, eqb-true, eqb-false, eq-eqb, and_parts}
 use Rattle.std.proofs.lemmas.Int.{ints}
 use Rattle.stn_model.specs.declared.ids.Constraint.{Constraint}
@@ -13,10 +12,11 @@ use Rattle.stn_model.specs.Net.{Net, arcs_of, point_count}
 use Rattle.stn_model.specs.Valid.{IsNetwork}
 use Rattle.stn_model.specs.ArcWalks.{IsInner, IsInnerLeast}
 use Rattle.stn_model.specs.Joined.{IsJoined}
+use Rattle.stn_model.proofs.ArcLemmas.{lower_arc}
 use Rattle.stn_walk.specs.Eliminations.{is_in, cell_of, before_both}
 use Rattle.stn_walk.specs.Joins.{joined_of}
 use Rattle.stn_walk.proofs.Eliminations.{cell-least}
-use Rattle.stn_walk.proofs.Joins.{is_in-reverse, joined-symmetric, joined-wider}
+use Rattle.stn_walk.proofs.Joins.{is_in-reverse, joined-symmetric, joined-wider, test-from_edge}
 use Rattle.stn_walk.proofs.Exits.{every}
 use Rattle.stn_walk.proofs.Distances.{consistent_no_negative}
 use Rattle.dist_rows.specs.declared.cell.Cell.{Cell}
@@ -33,10 +33,10 @@ use Rattle.private_elim.specs.Taken.{IsTaken}
 use Rattle.private_elim.specs.Backs.{HoldsFinals}
 use Rattle.private_elim.specs.Sweeps.{IsSwept}
 use Rattle.private_elim.proofs.Places.{place_contained}
-use Rattle.private_elim.proofs.LocalFacts.{arc_joins}
+use Rattle.private_elim.proofs.LocalFacts.{arc_joins, some_point, z_first, lower_contained}
 use Rattle.private_elim.proofs.Orders.{in-first, in-rest, before-behind}
 use Rattle.private_elim.proofs.OwnWalks.{from_private, to_private, starts_at, ends_at, least_from_private, least_to_private}
-use Rattle.private_elim.proofs.SweepParts.{points_apart, joined_in_order, order_joins, joined_turned, left, cut, fresh, in_front, left_private, here_private, none_left, cell_out, cell_back, join_out, cells_apart}
+use Rattle.private_elim.proofs.SweepParts.{points_apart, private_place, few_order, joined_in_order, order_joins, joined_turned, left, cut, fresh, in_front, left_private, here_private, none_left, cell_out, cell_back, join_out, cells_apart}
 
 -- what holds of the pairs that a revisit sets, and of all others, holds of all pairs
 by_pair : (k : ℕ) (later : List ℕ) (P : ℕ → ℕ → Type 0) → ((q : ℕ) → blocks.is_in q later ≡ true → P k q) → ((p : ℕ) → blocks.is_in p later ≡ true → P p k)
@@ -159,6 +159,64 @@ module _ (v : LocalView) (order : List ℕ) (f : ℕ → ℕ → Option Cell) (j
       let first = starts_at (is_in before) (arcs_in v) p (point_at v.points k) w h in
       let there = place_contained v.points first.0.from.0 (arc_joins v t.known first.0 first.1).starts in
       away there.0 there.1 (there.2 ∙ first.2)
+
+  -- z is one of them
+  z_later : blocks.is_in 0 later ≡ true
+  z_later =
+      let some = some_point v t.known in
+      let here = here_private v order f joined remain t n k lt lk is in
+      let other : 0 ≢ k = λ e. false≢true (ap (private_at v) e ∙ sym (private_place v order f joined remain t k lk) ∙ here) in
+      let above : 0 < k = omega arith in
+      let away : is_in before (point_at v.points 0) ≡ false =
+      off (is_in before (point_at v.points 0))
+      (λ h. false≢true (sym (private_place v order f joined remain t 0 some) ∙ left_private v order f joined remain t n k lt lk is (point_at v.points 0) h)) in
+      let edge = test-from_edge (arcs_in v) (point_at v.points k) (point_at v.points 0) (
+        lower_arc (point_at v.points k),
+        lower_contained v t.known k above lk,
+        inl (refl, sym (z_first v t.known)),
+      ) in
+      let joins = join_out v order f joined remain t n k lt lk is 0 some other away
+      ∙ joined-wider (arcs_in v) [] before (point_at v.points k) (point_at v.points 0) (λ p h. absurd (false≢true h)) edge in
+      let is_done = outside_done 0 some (outside_left 0 some other ∙ away) in
+      each 0 ∙ both (remains done 0) (joined k 0) is_done joins
+    where
+      off : (b : Bool) → (b ≡ true → ⊥) → b ≡ false
+      off true h = absurd (h refl)
+      off false h = refl
+
+      both : (a b : Bool) → a ≡ true → b ≡ true → (a && b) ≡ true
+      both true b g h = h
+      both false b g h = absurd (false≢true g)
+
+  -- so there is one, and it is not k
+  pub some_later : 0 < length later
+  some_later = some later z_later where
+    some : (xs : List ℕ) → blocks.is_in 0 xs ≡ true → 0 < length xs
+    some [] h = absurd (false≢true h)
+    some (x ∷ xs) h = omega arith
+
+  pub not_later : blocks.is_in k later ≡ false
+  not_later = each k ∙ ap (λ b. b && joined k k) not_done
+
+  -- no cell stands between k and a place yet
+  pub no_cells : (j : ℕ) → (at k j ≡ None) × (at j k ≡ None)
+  no_cells j = (
+    nothing (at k j) (λ h. false≢true (sym not_done ∙ (s.ends k j h).0)),
+    nothing (at j k) (λ h. false≢true (sym not_done ∙ (s.ends j k h).1)),
+  ) where
+    nothing : (o : Option Cell) → (is_some o ≡ true → ⊥) → o ≡ None
+    nothing None h = refl
+    nothing (Some c) h = absurd (h refl)
+
+  -- weights are far below what a revisit allows
+  pub finals_light : AllLight 99 at
+  finals_light = λ p q.
+      let few = few_order v order f joined remain t in
+      far (at p q) (s.light p q) few
+    where
+      far : (o : Option Cell) → IfSome o (λ c. nat_abs c.weight ≤ 9007199254740992 + (length order - (n + 1)) * 4503599627370496) → length order ≤ 4096 → IfSome o (λ c. IsLight 99 c.weight)
+      far None h few = tt
+      far (Some c) h few = omega arith
 
   -- in a network in which the entries hold least bounds
   module _ (net : Net) (valid : IsNetwork net) (e : v ≡ local_of net v.agent) (holds : HoldsFinals net v.agent entries) where
