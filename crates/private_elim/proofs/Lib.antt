@@ -10,3 +10,5 @@ pub mod OwnWalks
 pub mod Orders
 pub mod SweepParts
 pub mod Sweeps
+pub mod Entries
+pub mod SweepEnds
