@@ -12,3 +12,4 @@ pub mod SweepParts
 pub mod Sweeps
 pub mod Entries
 pub mod SweepEnds
+pub mod Bounds

@@ -2,6 +2,8 @@
 #![tactic(auto)]
 
 pub mod back;
+mod back_revisits;
+mod back_start;
 mod conflict;
 pub mod eliminate;
 mod elimination;
