@@ -13,3 +13,4 @@ pub mod Sweeps
 pub mod Entries
 pub mod SweepEnds
 pub mod Bounds
+pub mod SweepTurns

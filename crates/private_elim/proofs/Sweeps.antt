@@ -114,7 +114,7 @@ module _ (v : LocalView) (order : List ℕ) (f : ℕ → ℕ → Option Cell) (j
   later_done : (m : ℕ) → blocks.is_in m later ≡ true → (remains done m ≡ true) × (joined k m ≡ true)
   later_done m h = and_parts (remains done m) (joined k m) (sym (each m) ∙ h)
 
-  later_other : (m : ℕ) → blocks.is_in m later ≡ true → m ≢ k
+  pub later_other : (m : ℕ) → blocks.is_in m later ≡ true → m ≢ k
   later_other m h e = false≢true (sym not_done ∙ ap (remains done) (sym e) ∙ (later_done m h).0)
 
   outside_left : (m : ℕ) → m < length v.points → m ≢ k → is_in (point_at v.points k ∷ before) (point_at v.points m) ≡ is_in before (point_at v.points m)

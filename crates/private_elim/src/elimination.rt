@@ -19,13 +19,13 @@ use stn_model::{OutOfMemory, PointId};
 /// A local problem of which some private points are taken, with what is left between the others.
 #[derive(Drop)]
 pub struct Elimination {
-    local: Local,
-    rows: MatrixRows,
-    joins: Joins,
+    pub(crate) local: Local,
+    pub(crate) rows: MatrixRows,
+    pub(crate) joins: Joins,
     remain: Vec<bool>,
     /// By place: with how many places that remain this one is joined, where it remains.
     degrees: Vec<u32>,
-    order: Vec<PointId>,
+    pub(crate) order: Vec<PointId>,
 }
 
 impl Model for Elimination {
