@@ -2,11 +2,13 @@
 --   room-between                         two different places have room
 --   rises-from_pairs, pairs-from_rises   lists that rise, in two forms
 --   bound_same, bounds_same              equal fields give equal bounds
-use Rattle.std.proofs.Common.{◌≡◌, ◌≢◌, ℕ, ◌<◌, List, length, Option, Some, None, Bool, true, false, ◌||◌, refl, sym, ap, ◌∙◌, subst, arith}
+--   bounds_of                            private bounds of some fields
+use Rattle.std.proofs.Common.{◌≡◌, ◌≢◌, ℕ, ◌<◌, List, length, Option, Some, None, Bool, true, false, ◌||◌, Vec, Global, refl, sym, ap, ◌∙◌, subst, arith}
 use Rattle.std.specs.Prelude.{ℤ, slice_index_or, if◌then◌else◌}
 use Rattle.std.specs.List.{AllPairs}
 use Rattle.std.proofs.lemmas.Bool.Decides.{nat_tests}
 use Rattle.std.proofs.lemmas.List.{get_or_default}
+use Rattle.dist_rows.specs.declared.matrix.MatrixRows.{MatrixRows}
 use Rattle.dist_rows.specs.Matrix.{in_room, cell_at}
 use Rattle.elim_step.specs.Eliminated.{weight_at}
 use Rattle.private_elim.specs.declared.back.PrivateBounds.{PrivateBounds}
@@ -43,3 +45,15 @@ pub bounds_same : (a b : PrivateBounds) → a.points.items ≡ b.points.items �
     → (i j : ℕ) → bound_between a i j ≡ bound_between b i j
 bounds_same a b points flags cells i j =
     ap (λ ps. bound_at a (place_in ps i) (place_in ps j)) points ∙ bound_same a b flags cells (place_in b.points.items i) (place_in b.points.items j)
+
+-- private bounds of these fields, which speak of a list of points that rises
+abbrev pub bounds_of : (points : Vec ℕ Global) (private : Vec Bool Global) (finals : MatrixRows) (xs : List ℕ)
+    → points.items ≡ xs → AllPairs (λ p q. p < q) xs → length private.items ≡ length xs → finals.size ≡ length xs → PrivateBounds
+bounds_of points private finals xs same rising one_each square = record {
+  points = points;
+  private = private;
+  finals = finals;
+  square = square ∙ sym (ap length same);
+  one_each = one_each ∙ sym (ap length same);
+  rising = subst (AllPairs (λ p q. p < q)) (sym same) rising;
+}

@@ -2,7 +2,7 @@
 --   entry_in-push     one entry more
 --   entry_light       the weights have magnitude at most 2^53
 --   valid_at, entry_fresh  each entry is valid, and none before it has its points
---   given_none, given_same, given_more   the cells of the first entries between places that are not private
+--   given_same, given_more   the cells of the first entries between places that are not private
 use Rattle.std.proofs.Common.{zero, suc, ◌≡◌, ◌≢◌, ℕ, ◌+◌, ◌<◌, ◌≤◌, List, [], ◌∷◌, ◌++◌, Bool, true, false, ◌&&◌, ◌||◌, not, Option, Some, None, length, take, get_or, refl, sym, ap, subst, ◌∙◌, arith}
 use Rattle.std.specs.Prelude.{ℤ, ◌==◌, nat_lt, nat_le, nat_abs, is_some, IfSome, if◌then◌else◌}
 use Rattle.std.proofs.lemmas.Bool.{false≢true, eqb-true, eqb-false, eq-eqb, and_parts}
@@ -96,13 +96,6 @@ fresh_after last (x ∷ es) (suc n) e h lt is =
 
 pub entry_fresh : (es : List SummaryEntry) (n : ℕ) (e : SummaryEntry) → is_summary es ≡ true → n < length es → get_or es n e ≡ e → entry_in (take n es) e.from.0 e.to.0 ≡ None
 entry_fresh es n e h = fresh_after None es n e h
-
--- cells of no entry
-pub given_none : (v : LocalView) (at : ℕ → ℕ → Option Cell) → ((p q : ℕ) → at p q ≡ None) → HasGiven v [] at
-given_none v at none = record {
-  only = λ p q some. absurd (false≢true (ap is_some (sym (none p q)) ∙ some));
-  weights = λ p q seen. ap weight_at (none p q);
-}
 
 -- an entry between other points
 other_entry : (e : SummaryEntry) (i j : ℕ) → (e.from.0 ≡ i → e.to.0 ≡ j → ⊥) → entry_in (e ∷ []) i j ≡ None

@@ -8,6 +8,7 @@
 use Rattle.std.proofs.Common.{suc, ◌≡◌, ◌≢◌, ℕ, ◌-◌, ◌<◌, List, [], ◌∷◌, ◌++◌, Bool, true, false, ◌||◌, length, get_or, reverse, refl, sym, ap, ◌∙◌, arith}
 use Rattle.std.specs.Prelude.{◌==◌, if◌then◌else◌}
 use Rattle.std.specs.List.{AllByRecursion}
+use Rattle.std.proofs.Math.Bool.{or-true, or-false, or_comm}
 use Rattle.std.proofs.lemmas.Bool.{false≢true, eq-eqb, ne_eqb}
 use Rattle.std.proofs.lemmas.List.{length-reverse, get_or-reverse}
 use Rattle.stn_model.specs.Walks.{AllDifferent}
@@ -15,26 +16,13 @@ use Rattle.stn_walk.specs.Eliminations.{is_in, before_both}
 use Rattle.stn_walk.proofs.Different.{AllDifferent-from_index, different_at}
 use Rattle.elim_step.proofs.Weights.{before-whole}
 
-or_true : (b : Bool) → (b || true) ≡ true
-or_true true = refl
-or_true false = refl
-
-or_turned : (a b : Bool) → (a || b) ≡ (b || a)
-or_turned true true = refl
-or_turned true false = refl
-or_turned false true = refl
-or_turned false false = refl
-
 -- the first of a list is in it
 pub in-first : (k : ℕ) (es : List ℕ) → is_in (k ∷ es) k ≡ true
-in-first k es = ap (λ b. is_in es k || b) (eq-eqb k k refl) ∙ or_true (is_in es k)
+in-first k es = ap (λ b. is_in es k || b) (eq-eqb k k refl) ∙ or-true (is_in es k)
 
 -- another is where the rest has it
 pub in-rest : (k : ℕ) (es : List ℕ) (p : ℕ) → p ≢ k → is_in (k ∷ es) p ≡ is_in es p
-in-rest k es p apart = ap (λ b. is_in es p || b) (ne_eqb p k apart) ∙ or_false (is_in es p) where
-  or_false : (b : Bool) → (b || false) ≡ b
-  or_false true = refl
-  or_false false = refl
+in-rest k es p apart = ap (λ b. is_in es p || b) (ne_eqb p k apart) ∙ or-false (is_in es p)
 
 -- what the rest has, the whole has
 pub in-behind : (ds fs : List ℕ) (p : ℕ) → is_in fs p ≡ true → is_in (ds ++ fs) p ≡ true
@@ -52,7 +40,7 @@ before-at (d ∷ ds) k es j fresh away =
 -- the order of the two does not matter
 pub before-turned : (es : List ℕ) (i j : ℕ) → before_both es i j ≡ before_both es j i
 before-turned [] i j = refl
-before-turned (k ∷ es) i j = (λ t. if or_turned (is_in (k ∷ es) i) (is_in (k ∷ es) j) t then before-turned es i j t else k ∷ es)
+before-turned (k ∷ es) i j = (λ t. if or_comm (is_in (k ∷ es) i) (is_in (k ∷ es) j) t then before-turned es i j t else k ∷ es)
 
 -- points of the rest come before both of two points that the rest lacks
 pub before-behind : (ds fs : List ℕ) (i j : ℕ) → is_in fs i ≡ false → is_in fs j ≡ false → (p : ℕ) → is_in fs p ≡ true → is_in (before_both (ds ++ fs) i j) p ≡ true

@@ -10,7 +10,8 @@ use Rattle.std.specs.Option.{option_eq}
 use Rattle.std.proofs.lemmas.List.{get_or_default}
 use Rattle.std.proofs.lemmas.List.Elements.{All-filter, All-contains, All-contains_itself}
 use Rattle.std.proofs.lemmas.List.Folds.{list_any_at}
-use Rattle.std.proofs.lemmas.Bool.{and_parts, cases_eq, false≢true, ne_eqb, eq-eqb}
+use Rattle.std.proofs.Math.Bool.{or-true}
+use Rattle.std.proofs.lemmas.Bool.{not-true, and_parts, cases_eq, false≢true, ne_eqb, eq-eqb}
 use Rattle.std.proofs.lemmas.Bool.Decides.{nat_tests}
 use Rattle.stn_model.specs.declared.ids.Constraint.{Constraint}
 use Rattle.stn_model.specs.Arcs.{arc_at, no_arc}
@@ -86,11 +87,7 @@ module _ (net : Net) (agent : ℕ) where
   private_owned p h =
       let both = and_parts (is_owned_by net agent p) (not (is_shared net p)) h in
       let above = (owned_in net agent p both.0).0 in
-      (both.0, ne_eqb p 0 (λ (e : p ≡ 0). omega arith), unshared (is_shared net p) both.1)
-    where
-      unshared : (b : Bool) → not b ≡ true → b ≡ false
-      unshared true g = absurd (false≢true g)
-      unshared false g = refl
+      (both.0, ne_eqb p 0 (λ (e : p ≡ 0). omega arith), not-true (is_shared net p) both.1)
 
   -- no external arc names a point that is not shared
   not_external : (a : Constraint) (p : ℕ) → Contains (arcs_of net) a → names_point p a ≡ true → is_shared net p ≡ false → is_external net a ≡ false
@@ -123,7 +120,7 @@ module _ (net : Net) (agent : ℕ) where
   pub own_to_private : (a : Constraint) → Contains (arcs_of net) a → is_private_of net agent a.to.0 ≡ true → is_own net agent a ≡ true
   own_to_private a here h =
       let p = private_owned a.to.0 h in
-      let named : names_point a.to.0 a ≡ true = ap (λ b. nat_eq a.from.0 a.to.0 || b) (eq-eqb a.to.0 a.to.0 refl) ∙ or_true (nat_eq a.from.0 a.to.0) in
+      let named : names_point a.to.0 a ≡ true = ap (λ b. nat_eq a.from.0 a.to.0 || b) (eq-eqb a.to.0 a.to.0 refl) ∙ or-true (nat_eq a.from.0 a.to.0) in
       let inside = not_external a a.to.0 here named p.2 in
       elim (nat_eq a.from.0 0) as (λ b. nat_eq a.from.0 0 ≡ b → is_own net agent a ≡ true) [
         | true ↦ λ t. own_second (nat_eq a.from.0 0) (is_owned_by net agent a.from.0) (nat_eq a.to.0 0) (is_owned_by net agent a.to.0) p.1 p.0 (inl t)
@@ -132,10 +129,6 @@ module _ (net : Net) (agent : ℕ) where
             let owned = same_agent-back (owner_of net a.from.0) (owner_of net a.to.0) agent same p.0 in
             own_second (nat_eq a.from.0 0) (is_owned_by net agent a.from.0) (nat_eq a.to.0 0) (is_owned_by net agent a.to.0) p.1 p.0 (inr owned)
       ] refl
-    where
-      or_true : (b : Bool) → (b || true) ≡ true
-      or_true true = refl
-      or_true false = refl
 
 module _ (v : LocalView) (net : Net) (e : v ≡ local_of net v.agent) where
   -- the own arcs are arcs of the network

@@ -5,7 +5,7 @@
 use Rattle.std.proofs.Common.{zero, suc, ◌≡◌, ◌≢◌, ℕ, ◌+◌, ◌-◌, ◌*◌, ◌<◌, ◌≤◌, List, [], ◌∷◌, Bool, true, false, ◌||◌, not, Option, Some, None, length, take, reverse, refl, sym, ap, subst, ◌∙◌, arith, ◌⊎◌, inl, inr}
 use Rattle.std.specs.Prelude.{ℤ, is_some, IfSome, nat_abs, slice_index_or, if◌then◌else◌}
 use Rattle.std.specs.List.{AllByRecursion, Contains}
-use Rattle.std.proofs.lemmas.Bool.{false≢true}
+use Rattle.std.proofs.lemmas.Bool.{false≢true, not-true, false_from_ne_true}
 use Rattle.std.proofs.lemmas.List.{take_all}
 use Rattle.stn_model.specs.declared.ids.Constraint.{Constraint}
 use Rattle.stn_model.specs.Net.{Net, arcs_of, point_count}
@@ -63,13 +63,9 @@ module _ (v : LocalView) (order : List ℕ) (f : ℕ → ℕ → Option Cell) (j
     in_order p lp =
         elim (private_at v p) as (λ b. private_at v p ≡ b → is_in order (point_at v.points p) ≡ b) [
           | true ↦ λ h. sym (is_in-reverse order (point_at v.points p)) ∙ whole (point_at v.points p) (private_place v order f joined remain t p lp ∙ h)
-          | false ↦ λ h. off (is_in order (point_at v.points p))
+          | false ↦ λ h. false_from_ne_true (is_in order (point_at v.points p))
               (λ g. false≢true (sym h ∙ sym (private_place v order f joined remain t p lp) ∙ order_private v order f joined remain t (point_at v.points p) g))
         ] refl
-      where
-        off : (b : Bool) → (b ≡ true → ⊥) → b ≡ false
-        off true h = absurd (h refl)
-        off false h = refl
 
     -- before the first revisit
     module _ (valid : is_summary entries ≡ true) (at : ℕ → ℕ → Option Cell) (given : HasGiven v entries at) (done : List Bool) (len : length done ≡ length v.points)
@@ -93,10 +89,7 @@ module _ (v : LocalView) (order : List ℕ) (f : ℕ → ℕ → Option Cell) (j
 
       -- places that are done are not private
       is_seen_place : (p : ℕ) → p < length v.points → remains done p ≡ true → private_at v p ≡ false
-      is_seen_place p lp h = off (private_at v p) (sym (seen p lp) ∙ h) where
-        off : (b : Bool) → not b ≡ true → b ≡ false
-        off true g = absurd (false≢true g)
-        off false g = refl
+      is_seen_place p lp h = not-true (private_at v p) (sym (seen p lp) ∙ h)
 
       seen_done : (p : ℕ) → p < length v.points → private_at v p ≡ false → remains done p ≡ true
       seen_done p lp h = seen p lp ∙ ap not h

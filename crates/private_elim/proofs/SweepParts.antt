@@ -7,6 +7,7 @@
 use Rattle.std.proofs.Common.{zero, suc, ◌≡◌, ◌≢◌, ℕ, ◌+◌, ◌*◌, ◌<◌, ◌≤◌, List, [], ◌∷◌, ◌++◌, Bool, true, false, ◌||◌, not, Option, Some, None, length, take, drop, reverse, get_or, refl, sym, ap, subst, ◌∙◌, arith, ⊎_elim}
 use Rattle.std.specs.Prelude.{ℤ, ◌==◌, is_some, IfSome, nat_abs}
 use Rattle.std.specs.List.{AllByRecursion, Contains}
+use Rattle.std.proofs.Math.Bool.{or-false}
 use Rattle.std.proofs.lemmas.Bool.{cases_lt, false≢true, eqb-true}
 use Rattle.std.proofs.lemmas.List.{take_more, take-append-drop, reverse-append}
 use Rattle.stn_model.specs.declared.ids.Constraint.{Constraint}
@@ -47,12 +48,8 @@ in_all P [] all p here = absurd (false≢true here)
 in_all P (x ∷ xs) all p here =
     elim (p == x) as (λ b. (p == x) ≡ b → (is_in xs p || b) ≡ true → P p) [
       | true ↦ λ t h. subst P (sym (eqb-true p x t)) all.0
-      | false ↦ λ t h. in_all P xs all.1 p (left (is_in xs p) h)
+      | false ↦ λ t h. in_all P xs all.1 p (sym (or-false (is_in xs p)) ∙ h)
     ] refl here
-  where
-    left : (b : Bool) → (b || false) ≡ true → b ≡ true
-    left true h = refl
-    left false h = h
 
 -- a front of an order, one point longer, turned round
 pub reverse-front : (xs : List ℕ) (n : ℕ) → n < length xs → reverse (take (n + 1) xs) ≡ point_at xs n ∷ reverse (take n xs)

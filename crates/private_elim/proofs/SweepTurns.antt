@@ -1,22 +1,25 @@
 -- One turn of a back sweep, in the fields of an elimination: Turn, and what a revisit asks and gives there.
-use Rattle.std.proofs.Common.{◌≡◌, ◌≢◌, ℕ, ◌+◌, ◌<◌, ◌≤◌, List, Bool, true, false, ◌&&◌, Option, Some, None, length, map, set, sym, ap, subst, ◌∙◌, arith}
-use Rattle.std.specs.Prelude.{IfSome, nat_abs}
+use Rattle.std.proofs.Common.{◌≡◌, ◌≢◌, ℕ, ◌+◌, ◌<◌, ◌≤◌, List, Bool, true, false, ◌&&◌, not, Option, Some, None, length, map, set, reverse, sym, ap, subst, ◌∙◌, arith}
+use Rattle.std.specs.Prelude.{IfSome, nat_abs, slice_index_or}
 use Rattle.std.specs.List.{AllPairs}
+use Rattle.stn_walk.specs.Eliminations.{is_in}
 use Rattle.dist_rows.specs.declared.cell.Cell.{Cell}
 use Rattle.dist_rows.specs.Cells.{IsLight, AllLight}
 use Rattle.dist_rows.specs.Matrix.{in_room, cell_at, room-from_cell, within-from_room}
 use Rattle.elim_step.specs.Blocks as blocks
 use Rattle.elim_step.specs.declared.summary.SummaryEntry.{SummaryEntry}
+use Rattle.elim_step.specs.Summaries.{is_summary}
 use Rattle.elim_step.specs.Eliminates.{remains}
 use Rattle.elim_step.specs.JoinedPlaces.{is_joined}
 use Rattle.elim_step.specs.Revisits.{names_once, Revisits}
 use Rattle.elim_step.proofs.JoinFacts.{names_once-from_rising}
 use Rattle.private_elim.specs.declared.elimination.Elimination.TheInside.{Inside}
-use Rattle.private_elim.specs.Locals.{point_at}
+use Rattle.private_elim.specs.Locals.{point_at, private_at, is_private_in}
 use Rattle.private_elim.specs.Underway.{IsUnderway}
-use Rattle.private_elim.specs.Sweeps.{IsSwept}
+use Rattle.private_elim.specs.Sweeps.{HasGiven, IsSwept}
 use Rattle.private_elim.proofs.Bounds.{room-between}
 use Rattle.private_elim.proofs.SweepParts.{rows_light}
+use Rattle.private_elim.proofs.SweepEnds.{swept_first}
 use Rattle.private_elim.proofs.Sweeps.{later_other, some_later, not_later, no_cells, finals_light, swept_more}
 
 -- the points taken, in their order
@@ -111,3 +114,16 @@ module _ (e : Inside) (n k : ℕ) (entries : List SummaryEntry) (size : ℕ) (at
   gives after r =
       swept_more e.local (order_of e) (rows_of e) (is_joined e.joins) e.remain.items t.underway.taken n k t.number t.place t.is entries at done t.swept later t.each within
       after r rows_small
+
+-- before the first turn; the lists have two names
+pub begins : (e : Inside) → IsUnderway e → ((p : ℕ) → is_private_in e.local p ≡ true → is_in (reverse (order_of e)) p ≡ true)
+    → (entries read : List SummaryEntry) → read ≡ entries → is_summary read ≡ true → (at : ℕ → ℕ → Option Cell) → HasGiven e.local read at
+    → (private lent done : List Bool) → lent ≡ private → length private ≡ length e.local.points
+    → ((p : ℕ) → p < length e.local.points → slice_index_or private p false ≡ private_at e.local p)
+    → length done ≡ length lent → ((p : ℕ) → p < length lent → slice_index_or done p false ≡ not (slice_index_or lent p false))
+    → IsSwept e.local (order_of e) entries (length (order_of e)) at done
+begins e underway whole entries read same valid at given private lent done same_private one_each private_is len seen =
+    let many : length lent ≡ length e.local.points = ap length same_private ∙ one_each in
+    swept_first e.local (order_of e) (rows_of e) (is_joined e.joins) e.remain.items underway.taken whole entries (subst (λ es. is_summary es ≡ true) same valid)
+    at (subst (λ es. HasGiven e.local es at) same given) done (len ∙ many)
+    (λ p lp. seen p (omega (arith, lp, many)) ∙ ap not (ap (λ bs. slice_index_or bs p false) same_private ∙ private_is p lp))

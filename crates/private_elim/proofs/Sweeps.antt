@@ -5,7 +5,7 @@
 --   swept_more       what it gives
 use Rattle.std.proofs.Common.{suc, ◌≡◌, ◌≢◌, ℕ, ◌+◌, ◌-◌, ◌*◌, ◌^◌, ◌<◌, ◌≤◌, List, [], ◌∷◌, ◌++◌, Bool, true, false, ◌&&◌, ◌||◌, not, Option, Some, None, length, take, drop, set, reverse, refl, sym, ap, subst, ◌∙◌, arith, inl, length-set, get_or-set_same, get_or-set_other}
 use Rattle.std.specs.Prelude.{ℤ, pos, ◌==◌, is_some, IfSome, nat_abs, if◌then◌else◌}
-use Rattle.std.proofs.lemmas.Bool.{false≢true, eqb-true, eqb-false, eq-eqb, and_parts}
+use Rattle.std.proofs.lemmas.Bool.{false≢true, eqb-true, eqb-false, eq-eqb, and_parts, and_from, or_right, not-true, false_from_ne_true}
 use Rattle.std.proofs.lemmas.Int.{ints}
 use Rattle.stn_model.specs.declared.ids.Constraint.{Constraint}
 use Rattle.stn_model.specs.Net.{Net, arcs_of, point_count}
@@ -92,12 +92,8 @@ module _ (v : LocalView) (order : List ℕ) (f : ℕ → ℕ → Option Cell) (j
   -- a place that is done stands for a point that is neither k's nor before it, and the other way round
   done_outside : (m : ℕ) → m < length v.points → remains done m ≡ true → is_in (point_at v.points k ∷ before) (point_at v.points m) ≡ false
   done_outside m lm h =
-      off (is_in (point_at v.points k ∷ before) (point_at v.points m))
+      not-true (is_in (point_at v.points k ∷ before) (point_at v.points m))
       (ap not (sym (in_front v order f joined remain t n k lt lk is (point_at v.points m))) ∙ sym (s.places m lm) ∙ h)
-    where
-      off : (b : Bool) → not b ≡ true → b ≡ false
-      off true g = absurd (false≢true g)
-      off false g = refl
 
   outside_done : (m : ℕ) → m < length v.points → is_in (point_at v.points k ∷ before) (point_at v.points m) ≡ false → remains done m ≡ true
   outside_done m lm h = s.places m lm ∙ ap not (in_front v order f joined remain t n k lt lk is (point_at v.points m) ∙ h)
@@ -135,17 +131,14 @@ module _ (v : LocalView) (order : List ℕ) (f : ℕ → ℕ → Option Cell) (j
       joined-symmetric (arcs_in v) before x z ∙ sym (join_out v order f joined remain t n k lt lk is m lm (later_other m first) (later_left m first)) ∙ (later_done m first).1 in
       let from : joined_of (arcs_in v) before z y ≡ true =
       sym (join_out v order f joined remain t n k lt lk is j lj (later_other j second) (later_left j second)) ∙ (later_done j second).1 in
-      let through : joined_of (arcs_in v) (z ∷ before) x y ≡ true = both (joined_of (arcs_in v) before x y) (joined_of (arcs_in v) before x z) (joined_of (arcs_in v) before z y) to from in
+      let through : joined_of (arcs_in v) (z ∷ before) x y ≡ true =
+      or_right (joined_of (arcs_in v) before x y) (joined_of (arcs_in v) before x z && joined_of (arcs_in v) before z y)
+      (and_from (joined_of (arcs_in v) before x z) (joined_of (arcs_in v) before z y) to from) in
       joined_in_order v order f joined remain t m j lm lj apart
       (t.joins m j lm lj apart
       ∙ joined-wider (arcs_in v) (z ∷ before) (before_both (reverse order) x y) x y
       (λ p h. ap (λ es. is_in (before_both es x y) p) (cut v order f joined remain t n k lt lk is)
       ∙ before-behind (reverse (drop (n + 1) order)) (z ∷ before) x y (done_outside m lm (later_done m first).0) (done_outside j lj (later_done j second).0) p h) through)
-    where
-      both : (a b c : Bool) → b ≡ true → c ≡ true → (a || (b && c)) ≡ true
-      both true b c h g = refl
-      both false true c h g = g
-      both false false c h g = absurd (false≢true h)
 
   -- a point that has no place is reached by no own walk
   strange_from : (p : ℕ) (w : List Constraint) → IsStrange v.points p → IsInner (is_in before) (arcs_in v) (point_at v.points k) p w → ⊥
@@ -168,7 +161,7 @@ module _ (v : LocalView) (order : List ℕ) (f : ℕ → ℕ → Option Cell) (j
       let other : 0 ≢ k = λ e. false≢true (ap (private_at v) e ∙ sym (private_place v order f joined remain t k lk) ∙ here) in
       let above : 0 < k = omega arith in
       let away : is_in before (point_at v.points 0) ≡ false =
-      off (is_in before (point_at v.points 0))
+      false_from_ne_true (is_in before (point_at v.points 0))
       (λ h. false≢true (sym (private_place v order f joined remain t 0 some) ∙ left_private v order f joined remain t n k lt lk is (point_at v.points 0) h)) in
       let edge = test-from_edge (arcs_in v) (point_at v.points k) (point_at v.points 0) (
         lower_arc (point_at v.points k),
@@ -178,15 +171,7 @@ module _ (v : LocalView) (order : List ℕ) (f : ℕ → ℕ → Option Cell) (j
       let joins = join_out v order f joined remain t n k lt lk is 0 some other away
       ∙ joined-wider (arcs_in v) [] before (point_at v.points k) (point_at v.points 0) (λ p h. absurd (false≢true h)) edge in
       let is_done = outside_done 0 some (outside_left 0 some other ∙ away) in
-      each 0 ∙ both (remains done 0) (joined k 0) is_done joins
-    where
-      off : (b : Bool) → (b ≡ true → ⊥) → b ≡ false
-      off true h = absurd (h refl)
-      off false h = refl
-
-      both : (a b : Bool) → a ≡ true → b ≡ true → (a && b) ≡ true
-      both true b g h = h
-      both false b g h = absurd (false≢true g)
+      each 0 ∙ and_from (remains done 0) (joined k 0) is_done joins
 
   -- so there is one, and it is not k
   pub some_later : 0 < length later
@@ -316,10 +301,7 @@ module _ (v : LocalView) (order : List ℕ) (f : ℕ → ℕ → Option Cell) (j
         (λ p q no_out no_back. subst (λ o. IfSome o (λ c. nat_abs c.weight ≤ more)) (sym (r.others p q no_out no_back)) (weaker bound more (at p q) (omega arith) (s.light p q)))
 
     is_later : (q : ℕ) → q < length v.points → q ≢ k → remains (set done k true) q ≡ true → joined k q ≡ true → blocks.is_in q later ≡ true
-    is_later q lq other is_done joins = each q ∙ both (remains done q) (joined k q) (was_done q other is_done) joins where
-      both : (a b : Bool) → a ≡ true → b ≡ true → (a && b) ≡ true
-      both true b g h = h
-      both false b g h = absurd (false≢true g)
+    is_later q lq other is_done joins = each q ∙ and_from (remains done q) (joined k q) (was_done q other is_done) joins
 
     least_more : (net : Net) → IsNetwork net → v ≡ local_of net v.agent → HoldsFinals net v.agent entries
         → (p q : ℕ) → p < length v.points → q < length v.points → remains (set done k true) p ≡ true → remains (set done k true) q ≡ true

@@ -4,7 +4,6 @@ ghost use Rattle.std.specs.List.{AllPairs};
 ghost use Rattle.private_elim.specs.Locals.{place_in};
 
 pub use crate::back_revisits::back_sweep;
-
 use dist_rows::{MatrixRows, Rows};
 use std::alloc::Global;
 use stn_model::{OutOfMemory, PointId};

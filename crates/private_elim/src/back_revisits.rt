@@ -84,12 +84,14 @@ impl Elimination {
         finals: &Summary,
         blank: Blank,
     ) -> Result<PrivateBounds, OutOfMemory>
+        ghost entries: { List SummaryEntry }
+        requires entries { finals.now ≡ entries }
         requires name { blank.name ≡ L.name }
         requires parts { (blank.parts ≡ L.parts) × (blank.parts ≡ 1) }
         requires whole { (p : ℕ) → is_private_in self.now.local p ≡ true → is_in (reverse self.now.order) p ≡ true }
         ensures only { IfOk result (λ b. (summary : List SummaryEntry) (i j : ℕ) → is_some (bound_between b i j) ≡ true
             → IsPrivatePair (record { local = self.now.local; order = self.now.order; summary = summary }) i j) }
-        ensures least { IfOk result (λ b. OfNetwork self.now.local (λ net. HoldsFinals net self.now.local.agent finals.now
+        ensures least { IfOk result (λ b. OfNetwork self.now.local (λ net. HoldsFinals net self.now.local.agent entries
             → (summary : List SummaryEntry) (i j : ℕ) → IsPrivatePair (record { local = self.now.local; order = self.now.order; summary = summary }) i j
             → IsLeastIn net i j (bound_between b i j))) }
     {
