@@ -1,4 +1,4 @@
--- The back sweep underway: HasGiven, IsSwept.
+-- The back sweep underway: IsSeenPlaces, HasGiven, IsSwept.
 use Rattle.std.specs.Prelude.{◌≡◌, ◌≢◌, ℕ, ◌+◌, ◌-◌, ◌*◌, ◌<◌, ◌≤◌, nat_abs, List, Bool, true, false, ◌||◌, not, Option, is_some, IfSome, length, take}
 use Rattle.stn_model.specs.Net.{arcs_of}
 use Rattle.stn_model.specs.ArcWalks.{IsInnerLeast}

@@ -121,6 +121,7 @@ pub fn back_sweep(
     ensures least { IfOk result (λ b. OfNetwork reduced.now.local (λ net. HoldsFinals net reduced.now.local.agent finals.now
         → (i j : ℕ) → IsPrivatePair reduced.now i j → IsLeastIn net i j (bound_between b i j))) }
 {
-    let _whole = reduced.summary();
+    // The summary is not read: with it comes the fact that all private points are taken.
+    let _summary = reduced.summary();
     reduced.part.sweep::<Brand>(alloc, finals, Blank::new(1))
 }
