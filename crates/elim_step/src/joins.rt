@@ -29,7 +29,7 @@ pub struct Joins {
 impl Joins {
     ghost use Rattle.elim_step.specs.JoinedPlaces.{is_joined};
 
-    /// Pairs of this many places, none of them joined.
+    /// Pairs of this many places, none of them joined. `OutOfMemory` where there is no room for the square of the size.
     pub fn new(alloc: Global, size: u32) -> Result<Joins, OutOfMemory>
         ensures size { IfOk result (λ s. s.size ≡ size) }
         ensures pairs { IfOk result (λ s. (p q : ℕ) → is_joined s p q ≡ false) }
@@ -55,7 +55,7 @@ impl Joins {
         i as usize * self.size as usize + j as usize
     }
 
-    /// Whether two places are joined. No place is joined with itself.
+    /// Whether two places below the size are joined. No place is joined with itself.
     pub fn get(&self, i: u32, j: u32) -> bool
         requires { (i < self.now.size) × (j < self.now.size) }
         ensures { result ≡ is_joined self.now i j }
@@ -64,7 +64,7 @@ impl Joins {
     }
 
     // The byte of a place with itself may be set: no call reads it.
-    /// Joins two places. Where they are one, nothing changes.
+    /// Joins two places below the size. Where they are one, nothing changes.
     pub fn join(&mut self, i: u32, j: u32)
         requires { (i < self.old.size) × (j < self.old.size) }
         ensures pairs { (p q : ℕ) → is_joined self.new p q ≡ (is_joined self.old p q || (not (p == q) && (((p == i) && (q == j)) || ((p == j) && (q == i))))) }
@@ -88,7 +88,8 @@ impl Joins {
         }
     }
 
-    /// Joins each pair of different places of a list. Takes no memory.
+    /// Joins each pair of different places of a list; all are below the size. Takes no memory, and the time of the square
+    /// of the list's length.
     pub fn join_all(&mut self, places: &[u32])
         requires { (p : ℕ) → is_in p places.now ≡ true → p < self.old.size }
         ensures pairs { (p q : ℕ) → is_joined self.new p q ≡ (is_joined self.old p q || (not (p == q) && is_in p places.now && is_in q places.now)) }
@@ -108,7 +109,8 @@ impl Joins {
         remain[p as usize] && self.get(k, p)
     }
 
-    /// The places that remain and are joined with k, by rising number.
+    /// The places that remain and are joined with k, by rising number. `remain` has a truth value for each place.
+    /// `OutOfMemory` where there is no room for the list.
     pub fn met(&self, alloc: Global, k: u32, remain: &[bool]) -> Result<Vec<u32>, OutOfMemory>
         requires within { k < self.now.size }
         requires len { length remain.now ≡ self.now.size }
@@ -124,7 +126,7 @@ impl Joins {
         Ok(places)
     }
 
-    /// How many places remain and are joined with k.
+    /// How many places remain and are joined with k. `remain` has a truth value for each place.
     pub fn count(&self, k: u32, remain: &[bool]) -> u32
         requires within { k < self.now.size }
         requires len { length remain.now ≡ self.now.size }
@@ -137,7 +139,7 @@ impl Joins {
         count
     }
 
-    /// Equal pairs of as many places.
+    /// Equal pairs of as many places. `OutOfMemory` where there is no room for them.
     pub fn copy(&self, alloc: Global) -> Result<Joins, OutOfMemory>
         ensures size { IfOk result (λ s. s.size ≡ self.now.size) }
         ensures pairs { IfOk result (λ s. (p q : ℕ) → is_joined s p q ≡ is_joined self.now p q) }

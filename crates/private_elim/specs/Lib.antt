@@ -2,6 +2,7 @@ pub mod Locals
 pub mod Views
 pub mod Origins
 pub mod Taken
+pub mod Degrees
 pub mod Underway
 pub mod Picked
 pub mod ReducedViews
@@ -10,4 +11,10 @@ pub mod Reductions
 pub mod Backs
 pub mod Held
 pub mod Laws
+pub mod SummaryRows
+pub mod Unfolds
+pub mod Laid
+pub mod Numbers
+pub mod Candidates
+pub mod Outcomes
 pub mod Sweeps

@@ -1,9 +1,10 @@
 -- How the fields of an elimination are seen, and what is true of them: taken_view, IsUnderway.
 use Rattle.std.specs.Prelude.{◌≡◌, ℕ, ◌<◌, ◌&&◌, List, map, length, slice_index_or, true}
 use Rattle.dist_rows.specs.Matrix.{cell_at}
-use Rattle.elim_step.specs.Eliminates.{remains, count_below}
+use Rattle.elim_step.specs.Eliminates.{remains}
 use Rattle.elim_step.specs.JoinedPlaces.{is_joined}
 use Rattle.private_elim.specs.declared.elimination.Elimination.TheInside.{Inside}
+use Rattle.private_elim.specs.Degrees.{degree_of}
 use Rattle.private_elim.specs.Taken.{TakenView, IsTaken}
 
 abbrev pub taken_view : Inside → TakenView
@@ -15,5 +16,5 @@ pub record IsUnderway (e : Inside) : Type 0 where
   pub joins_size : e.joins.size ≡ length e.local.points
   pub degrees_len : length e.degrees.items ≡ length e.local.points
   pub degrees : (p : ℕ) → remains e.remain.items p ≡ true
-      → slice_index_or e.degrees.items p 0 ≡ count_below (λ q. remains e.remain.items q && is_joined e.joins p q) (length e.local.points)
+      → slice_index_or e.degrees.items p 0 ≡ degree_of e.remain.items e.joins p
   pub taken : IsTaken e.local (map (λ p. p.0) e.order.items) (cell_at e.rows.size e.rows.slots.items) (is_joined e.joins) e.remain.items

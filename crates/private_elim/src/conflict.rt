@@ -8,9 +8,10 @@ ghost use Rattle.private_elim.specs.Taken.{Fails};
 ghost use Rattle.private_elim.specs.Reductions.{OfNetwork};
 
 use crate::elimination::Elimination;
+use crate::numbers::numbers_of;
 use std::alloc::Global;
 use stn_model::OutOfMemory;
-use stn_walk::Walk;
+use stn_walk::{Walk, negative_cycle};
 
 /// The cycle of an own conflict, by the numbers of its arcs in the network, where the private point at a place fails with another.
 pub fn own_conflict(
@@ -25,5 +26,13 @@ pub fn own_conflict(
     ensures cycle { IfOk result (λ w. OfNetwork part.now.local (λ net. IsOwnConflict net part.now.local.agent w)) }
     ensures normal { IfOk result IsNormal }
 {
-    unreachable!()
+    // What the size tells of the part: the taken points are private, and no closed walk through them is negative.
+    let _facts = part.size();
+    let mut closed = part.unfold(alloc, place, other)?;
+    let back = part.unfold(alloc, other, place)?;
+    closed.extend_from_slice(back.as_slice())?;
+    let local = part.local();
+    let cycle = negative_cycle(alloc, local, closed.as_slice())?;
+    let numbers = numbers_of(alloc, local, cycle.as_slice())?;
+    Ok(Walk::new(numbers))
 }

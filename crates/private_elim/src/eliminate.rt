@@ -1,20 +1,28 @@
 //! The elimination of an agent's private points, in an order that a picker chooses or that is given.
-ghost use Rattle.std.specs.Prelude.{◌≡◌, ◌↔◌, ℕ, ◌<◌, true, IfOk, length, map, reverse, take, slice_index};
+ghost use Rattle.std.specs.Prelude.{◌≡◌, ◌↔◌, ℕ, ◌<◌, true, IfOk, length, map, reverse, take, slice_index, []};
 ghost use Rattle.std.specs.List.{AllByRecursion};
 ghost use Rattle.stn_model.specs.Walks.{IsNormal, AllDifferent};
 ghost use Rattle.stn_model.specs.Conflicts.{IsOwnConflict};
 ghost use Rattle.stn_model.specs.Summaries.{IsSummary};
 ghost use Rattle.stn_walk.specs.Eliminations.{is_in};
 ghost use Rattle.private_elim.specs.Locals.{all_numbered, is_private_in};
-ghost use Rattle.private_elim.specs.Taken.{StopsAt};
-ghost use Rattle.private_elim.specs.Picked.{IsPicked, ArePicked, IsStopped};
+ghost use Rattle.elim_step.specs.Eliminated.{point_at};
+ghost use Rattle.elim_step.specs.Picks.{candidate_at};
+ghost use Rattle.private_elim.specs.Taken.{StopsAt, Fails};
+ghost use Rattle.private_elim.specs.Outcomes.{IsNext, IsReducedFrom, IsConflictFrom, IsPickedOutcome, IsListedOutcome};
+ghost use Rattle.private_elim.specs.Picked.{AreCandidates, ArePicked, IsStopped};
 ghost use Rattle.private_elim.specs.ReducedViews.{entry_of};
 ghost use Rattle.private_elim.specs.Reductions.{OfNetwork, HasOwnConflict, is_conflict, IfReduced, IfConflict};
 
+use crate::conflict::own_conflict;
+use crate::elimination::Elimination;
 use crate::local::Local;
 use crate::outcome::PrivateOutcome;
-use elim_step::Picker;
+use crate::summarise::summarise;
+use elim_step::{Candidate, Picker, Steps};
 use std::alloc::Global;
+use std::marker::Brand;
+use std::sync::ledger::{Blank, Ledger};
 use stn_model::{OutOfMemory, PointId};
 
 /// Takes the private points of a local problem one by one, each as the picker allows among those that are left: a candidate's
@@ -40,7 +48,8 @@ pub fn eliminate_private(
     ensures picks { IfOk result (IfReduced (λ r. ArePicked (post (picker.now.key.vtable, picker.now.key.value)) local.now (reverse r.order))) }
     ensures summary { IfOk result (IfReduced (λ r. OfNetwork local.now (λ net. IsSummary net local.now.agent (map entry_of r.summary)))) }
 {
-    unreachable!()
+    let part = Elimination::start(alloc, local)?;
+    take_picked::<Brand>(alloc, Blank::new(1), part, picker)
 }
 
 /// The same in a given order, which holds each private point once and nothing else.
@@ -62,5 +71,122 @@ pub fn eliminate_listed(
     ensures order { IfOk result (IfReduced (λ r. r.order ≡ map (λ p. p.0) order.now)) }
     ensures summary { IfOk result (IfReduced (λ r. OfNetwork local.now (λ net. IsSummary net local.now.agent (map entry_of r.summary)))) }
 {
-    unreachable!()
+    let part = Elimination::start(alloc, local)?;
+    take_listed::<Brand>(alloc, Blank::new(1), part, order)
+}
+
+// Takes the private points as the picker allows, until none is left or one fails.
+fn take_picked<L: Ledger>(
+    alloc: Global,
+    blank: Blank,
+    part: Elimination,
+    picker: &Picker,
+) -> Result<PrivateOutcome, OutOfMemory>
+    requires name { blank.name ≡ L.name }
+    requires parts { blank.parts ≡ L.parts }
+    requires some { blank.parts ≡ 1 }
+    requires start { part.order ≡ [] }
+    ensures { IfOk result (IsPickedOutcome (post (picker.now.key.vtable, picker.now.key.value)) part.local) }
+{
+    let mut steps = Steps::<L>::new(blank);
+    let mut part = part;
+    let mut candidates = Vec::new(alloc);
+    'taking: loop {
+        part.candidates(&mut candidates)?;
+        let Some(k) = picker.pick(candidates.as_slice()) else {
+            return reduced(alloc, part);
+        };
+        let place = picked_place(&part, candidates.as_slice(), k);
+        if let Some(other) = part.take(alloc, place, &mut steps)? {
+            return conflict(alloc, &part, place, other);
+        }
+        let _taken = part.size();
+    }
+}
+
+// Takes the private points in their order, until one fails.
+fn take_listed<L: Ledger>(
+    alloc: Global,
+    blank: Blank,
+    part: Elimination,
+    order: &[PointId],
+) -> Result<PrivateOutcome, OutOfMemory>
+    requires name { blank.name ≡ L.name }
+    requires parts { blank.parts ≡ L.parts }
+    requires some { blank.parts ≡ 1 }
+    requires start { part.order ≡ [] }
+    requires private { AllByRecursion (λ p. is_private_in part.local p.0 ≡ true) order.now }
+    requires once { AllDifferent (map (λ p. p.0) order.now) }
+    requires whole { (p : ℕ) → is_private_in part.local p ≡ true → is_in (reverse (map (λ p. p.0) order.now)) p ≡ true }
+    ensures { IfOk result (IsListedOutcome part.local (map (λ p. p.0) order.now)) }
+{
+    let mut steps = Steps::<L>::new(blank);
+    let mut part = part;
+    for n in 0..order.len() {
+        let place = listed_place(&part, order, n);
+        if let Some(other) = part.take(alloc, place, &mut steps)? {
+            return conflict(alloc, &part, place, other);
+        }
+    }
+    reduced(alloc, part)
+}
+
+// The place of a candidate.
+fn picked_place(part: &Elimination, candidates: &[Candidate], k: usize) -> u32
+    requires are { AreCandidates part.now.local (reverse part.now.order) candidates.now }
+    requires within { k < length candidates.now }
+    ensures { IsNext part.now (candidate_at candidates.now k).number result }
+{
+    let _size = part.size();
+    let Some(place) = part.local().place_of(PointId(candidates[k].number)) else {
+        unreachable!()
+    };
+    place
+}
+
+// The place of the next point of an order.
+fn listed_place(part: &Elimination, order: &[PointId], n: usize) -> u32
+    requires within { n < length order.now }
+    requires taken { part.now.order ≡ take n (map (λ p. p.0) order.now) }
+    requires private { AllByRecursion (λ p. is_private_in part.now.local p.0 ≡ true) order.now }
+    requires once { AllDifferent (map (λ p. p.0) order.now) }
+    ensures { IsNext part.now (slice_index (map (λ p. p.0) order.now) n) result }
+{
+    let _size = part.size();
+    let Some(place) = part.local().place_of(order[n]) else {
+        unreachable!()
+    };
+    place
+}
+
+// The answer once all private points are taken.
+fn reduced(alloc: Global, part: Elimination) -> Result<PrivateOutcome, OutOfMemory>
+    requires { (p : ℕ) → is_private_in part.local p ≡ true → is_in (reverse part.order) p ≡ true }
+    ensures { IfOk result (IsReducedFrom part) }
+{
+    let _taken = part.size();
+    let reduced = summarise(alloc, part)?;
+    let _told = reduced.summary();
+    Ok(PrivateOutcome::Reduced(reduced))
+}
+
+// The answer where the point at a place fails.
+fn conflict(
+    alloc: Global,
+    part: &Elimination,
+    place: u32,
+    other: u32,
+) -> Result<PrivateOutcome, OutOfMemory>
+    requires within { (place < length part.now.local.points) × (other < length part.now.local.points) }
+    requires private { is_private_in part.now.local (point_at part.now.local.points place) ≡ true }
+    requires fails { Fails part.now.local (reverse part.now.order) (point_at part.now.local.points place) (point_at part.now.local.points other) }
+    ensures { IfOk result (IsConflictFrom part.now (point_at part.now.local.points other)) }
+{
+    let walk = own_conflict(alloc, part, place, other)?;
+    let _size = part.size();
+    Ok(PrivateOutcome::Conflict {
+        walk,
+        place: part.order().len() as u32,
+        other: part.local().point(other),
+    })
 }

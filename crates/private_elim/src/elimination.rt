@@ -1,10 +1,12 @@
 //! A local problem of which some private points are taken: the weights between its points through those.
-ghost use Rattle.std.specs.Prelude.{◌≡◌, ◌≢◌, ℕ, ◌<◌, ◌+ℤ◌, ◌<ℤ◌, ◌++◌, ◌∷◌, [], ◌⊎◌, true, false, pos, neg_ℤ, ◌≤ℤ◌, map, Option, Some, None, is_some, IfOk, IfSome, OnErr, MatchOption, length, reverse};
+ghost use Rattle.std.specs.Prelude.{◌≡◌, ◌≢◌, ℕ, ◌<◌, ◌+ℤ◌, ◌<ℤ◌, ◌++◌, ◌∷◌, [], ◌⊎◌, true, false, pos, neg_ℤ, ◌≤ℤ◌, map, Option, Some, None, is_some, IfOk, IfSome, OnErr, MatchOption, length, reverse, slice_index_or, if◌then◌else◌};
 ghost use Rattle.std.specs.List.{AllByRecursion};
 ghost use Rattle.stn_model.specs.Walks as walks;
 ghost use Rattle.stn_walk.specs.Eliminations.{is_in, before_both};
 ghost use Rattle.stn_walk.specs.Joins.{joined_of};
-ghost use Rattle.elim_step.specs.Eliminated.{forward_of, point_at};
+ghost use Rattle.elim_step.specs.Eliminated.{forward_of, point_at, weight_at};
+ghost use Rattle.elim_step.specs.Blocks.{is_in as is_in_block};
+ghost use Rattle.private_elim.specs.Degrees.{degree_of};
 ghost use Rattle.private_elim.specs.Locals.{arcs_in, is_private_in, all_numbered, is_point_of};
 ghost use Rattle.private_elim.specs.Taken.{TakenView, StopsAt, HasTaken};
 
@@ -22,9 +24,9 @@ pub struct Elimination {
     pub(crate) local: Local,
     pub(crate) rows: MatrixRows,
     pub(crate) joins: Joins,
-    remain: Vec<bool>,
+    pub(crate) remain: Vec<bool>,
     /// By place: with how many places that remain this one is joined, where it remains.
-    degrees: Vec<u32>,
+    pub(crate) degrees: Vec<u32>,
     pub(crate) order: Vec<PointId>,
 }
 
@@ -58,7 +60,24 @@ impl Elimination {
             × StopsAt self.old.local (reverse self.old.order) (point_at self.old.local.points place) (point_at self.old.local.points other))) }
         ensures err { OnErr result (self.new ≡ self.old) }
     {
-        unreachable!()
+        let point = self.local.point(place);
+        let met = self.joins.met(alloc, place, self.remain.as_slice())?;
+        self.order.reserve(1)?;
+        match eliminate_point(&mut self.rows, place, self.remain.as_slice(), steps)? {
+            Found::Negative(other) => Ok(Some(other)),
+            Found::Clear => {
+                self.joins.join_all(met.as_slice());
+                self.remain[place as usize] = false;
+                recount(
+                    &mut self.degrees,
+                    &self.joins,
+                    self.remain.as_slice(),
+                    met.as_slice(),
+                );
+                self.order.push_reserved(point);
+                Ok(None)
+            }
+        }
     }
 
     /// The number of places.
@@ -90,7 +109,7 @@ impl Elimination {
         ensures value { from ≢ to → result ≡ forward_of (arcs_in self.now.local) (reverse self.now.order) (point_at self.now.local.points from) (point_at self.now.local.points to) }
         ensures light { IfSome result (λ w. (neg_ℤ (pos 4503599627370496) ≤ℤ w) × (w ≤ℤ pos 4503599627370496)) }
     {
-        unreachable!()
+        weight_of(self.rows.get(from, to))
     }
 
     /// Whether two places are joined through the taken points that come before both; a place is not joined with itself.
@@ -100,27 +119,49 @@ impl Elimination {
         ensures value { i ≢ j → result ≡ joined_of (arcs_in self.now.local) (before_both (reverse self.now.order) (point_at self.now.local.points i) (point_at self.now.local.points j))
             (point_at self.now.local.points i) (point_at self.now.local.points j) }
     {
-        unreachable!()
+        self.joins.get(i, j)
     }
 
     /// The same local problem with the same points taken.
     pub fn copy(&self, alloc: Global) -> Result<Elimination, OutOfMemory>
         ensures { IfOk result (λ e. e ≡ self.now) }
     {
-        unreachable!()
+        let local = self.local.copy(alloc)?;
+        let rows = self.rows.copy(alloc)?;
+        let joins = self.joins.copy(alloc)?;
+        let remain = Vec::from_slice(alloc, self.remain.as_slice())?;
+        let degrees = Vec::from_slice(alloc, self.degrees.as_slice())?;
+        let order = Vec::from_slice(alloc, self.order.as_slice())?;
+        Ok(Elimination {
+            local,
+            rows,
+            joins,
+            remain,
+            degrees,
+            order,
+        })
     }
+}
 
-    /// The arcs of a walk from a place to another, by their numbers in the local problem, through taken points that come before
-    /// both: one of the cell's weight.
-    pub fn unfold(&self, alloc: Global, from: u32, to: u32) -> Result<Vec<u32>, OutOfMemory>
-        requires within { (from < length self.now.local.points) × (to < length self.now.local.points) }
-        requires apart { from ≢ to }
-        requires there { is_some (forward_of (arcs_in self.now.local) (reverse self.now.order) (point_at self.now.local.points from) (point_at self.now.local.points to)) ≡ true }
-        ensures walk { IfOk result (λ ns. walks.IsWalk (arcs_in self.now.local) (point_at self.now.local.points from) (point_at self.now.local.points to) ns.items) }
-        ensures weight { IfOk result (λ ns. Some (walks.weight (arcs_in self.now.local) ns.items)
-            ≡ forward_of (arcs_in self.now.local) (reverse self.now.order) (point_at self.now.local.points from) (point_at self.now.local.points to)) }
-        ensures through { IfOk result (λ ns. AllByRecursion (λ p. (is_in (reverse self.now.order) p ≡ true) ⊎ (p ≡ point_at self.now.local.points to)) (walks.heads (arcs_in self.now.local) ns.items)) }
-    {
-        unreachable!()
+// The weight of a cell.
+fn weight_of(cell: Option<Cell>) -> Option<i128>
+    ensures { result ≡ weight_at cell }
+{
+    match cell {
+        None => None,
+        Some(cell) => Some(cell.weight),
+    }
+}
+
+// Counts anew, for each of these places, with how many places that remain it is joined.
+fn recount(degrees: &mut Vec<u32>, joins: &Joins, remain: &[bool], places: &[u32])
+    requires len { length degrees.old.items ≡ joins.now.size }
+    requires remain_len { length remain.now ≡ joins.now.size }
+    requires within { (p : ℕ) → is_in_block p places.now ≡ true → p < joins.now.size }
+    ensures len { length degrees.new.items ≡ length degrees.old.items }
+    ensures each { (p : ℕ) → slice_index_or degrees.new.items p 0 ≡ (if is_in_block p places.now then degree_of remain.now joins.now p else slice_index_or degrees.old.items p 0) }
+{
+    for &p in places {
+        degrees[p as usize] = joins.count(p, remain);
     }
 }

@@ -1,17 +1,22 @@
 //! An agent's own part of a network, and what is left of it for others once its private points are eliminated.
 #![tactic(auto)]
 
+mod arc_list;
 pub mod back;
 mod back_revisits;
 mod back_start;
+mod candidates;
 mod conflict;
 pub mod eliminate;
 mod elimination;
 pub mod laws;
 pub mod local;
+mod numbers;
 pub mod outcome;
 pub mod reduced;
+mod start;
 mod summarise;
+mod unfold;
 
 pub use back::{PrivateBounds, back_sweep};
 pub use eliminate::{eliminate_listed, eliminate_private};

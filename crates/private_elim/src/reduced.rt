@@ -1,14 +1,17 @@
 //! A local problem whose private points are all taken: its summary, the weights between its points, and their walks.
-ghost use Rattle.std.specs.Prelude.{◌≡◌, ◌≢◌, ℕ, ◌≤◌, true, false, Some, None, IfOk, is_some, reverse, map};
+ghost use Rattle.std.specs.Prelude.{◌≡◌, ◌≢◌, ◌<◌, ◌*◌, ◌-◌, [], ◌∷◌, true, false, ◌&&◌, Some, None, IfOk, is_some, length, reverse, map};
 ghost use Rattle.stn_model.specs.Net.{arcs_of};
 ghost use Rattle.stn_model.specs.Walks as walks;
 ghost use Rattle.stn_model.specs.Inner.{IsInnerWeight};
 ghost use Rattle.stn_walk.specs.Eliminations.{is_in, before_both};
-ghost use Rattle.private_elim.specs.Locals.{arcs_in, is_point_of};
+ghost use Rattle.private_elim.specs.Locals.{arcs_in, is_point_of, horizon_in};
 ghost use Rattle.private_elim.specs.ReducedViews.{weight_between, IsReduced};
 ghost use Rattle.private_elim.specs.Reductions.{OfNetwork, AreOwn};
+ghost use Rattle.private_elim.specs.SummaryRows.{is_pair_at, forward_at, is_over};
 
 use crate::elimination::Elimination;
+use crate::numbers::numbers_of;
+use crate::summarise::is_pair;
 use elim_step::Summary;
 use std::alloc::Global;
 use std::marker::Model;
@@ -40,7 +43,7 @@ impl Reduced {
     pub fn order(&self) -> &[PointId]
         ensures { map (λ p. p.0) result.now ≡ self.now.order }
     {
-        unreachable!()
+        self.part.order()
     }
 
     /// What the agent tells the others: the summary of its own arcs.
@@ -48,7 +51,7 @@ impl Reduced {
         ensures value { result.now ≡ self.now.summary }
         ensures reduced { IsReduced self.now.local self.now.order self.now.summary }
     {
-        unreachable!()
+        &self.summary
     }
 
     /// The least weight of walks of own arcs from one point to another whose inner points are private and come before both in the
@@ -60,24 +63,79 @@ impl Reduced {
         ensures strange_end { is_point_of self.now.local j.0 ≡ false → result ≡ None }
         ensures least { i.0 ≢ j.0 → IsInnerWeight (is_in (before_both (reverse self.now.order) i.0 j.0)) (arcs_in self.now.local) i.0 j.0 result }
     {
-        unreachable!()
+        // What the size tells of the part: no closed walk through taken points is negative.
+        let _size = self.part.size();
+        let local = self.part.local();
+        let from = local.place_of(i)?;
+        let to = local.place_of(j)?;
+        self.part.weight(from, to)
     }
 
     /// A walk of own arcs, by their numbers in the network, for a pair that has an entry of the summary or a forward weight: its
-    /// weight is that of the entry where the pair has one, and else the forward weight.
+    /// weight is that of the entry where the pair has one, and else the forward weight. OutOfMemory where memory runs out.
     pub fn walk(&self, alloc: Global, i: PointId, j: PointId) -> Result<Walk, OutOfMemory>
         requires { is_some (weight_between self.now i.0 j.0) ≡ true }
         ensures walk { IfOk result (λ w. OfNetwork self.now.local (λ net. walks.IsWalk (arcs_of net) i.0 j.0 w)) }
         ensures own { IfOk result (λ w. OfNetwork self.now.local (λ net. AreOwn net self.now.local.agent w)) }
         ensures weight { IfOk result (λ w. OfNetwork self.now.local (λ net. Some (walks.weight (arcs_of net) w) ≡ weight_between self.now i.0 j.0)) }
     {
-        unreachable!()
+        // As in `forward`: no closed walk through taken points is negative.
+        let _size = self.part.size();
+        let local = self.part.local();
+        let Some(from) = local.place_of(i) else {
+            unreachable!()
+        };
+        let Some(to) = local.place_of(j) else {
+            unreachable!()
+        };
+        if is_detour(&self.part, from, to) {
+            let numbers = detour(alloc, i, j)?;
+            return Ok(Walk::new(numbers));
+        }
+        let places = self.part.unfold(alloc, from, to)?;
+        let numbers = numbers_of(alloc, local, places.as_slice())?;
+        Ok(Walk::new(numbers))
     }
 
-    /// An equal reduced local problem.
+    /// An equal reduced local problem, or OutOfMemory.
     pub fn copy(&self, alloc: Global) -> Result<Reduced, OutOfMemory>
         ensures { IfOk result (λ r. r ≡ self.now) }
     {
-        unreachable!()
+        let part = self.part.copy(alloc)?;
+        let summary = self.summary.copy(alloc)?;
+        Ok(Reduced { part, summary })
     }
+}
+
+// Whether the walk of the pair's entry goes through the reference point: the pair has an entry, and no forward weight of at most the
+// horizon.
+fn is_detour(part: &Elimination, from: u32, to: u32) -> bool
+    requires within { (from < length part.now.local.points) × (to < length part.now.local.points) }
+    requires apart { from ≢ to }
+    ensures { result ≡ (is_pair_at part.now from to && is_over (horizon_in part.now.local) (forward_at part.now from to)) }
+{
+    is_pair(part, from, to) && is_over(part.local().horizon(), part.weight(from, to))
+}
+
+// Whether a weight is missing, or above the horizon.
+fn is_over(horizon: i64, weight: Option<i128>) -> bool
+    ensures { result ≡ is_over horizon weight }
+{
+    match weight {
+        None => true,
+        Some(weight) => i128::from(horizon) < weight,
+    }
+}
+
+// The numbers of the arc from a point to the reference point, and of the arc from there to another point: their bounds are 0 and the
+// horizon.
+fn detour(alloc: Global, i: PointId, j: PointId) -> Result<Vec<u32>, OutOfMemory>
+    requires from { (0 < i.0) × (i.0 < 4096) }
+    requires to { (0 < j.0) × (j.0 < 4096) }
+    ensures { IfOk result (λ numbers. numbers.items ≡ (2 * i.0 - 1) ∷ (2 * j.0 - 2) ∷ []) }
+{
+    let mut numbers = Vec::with_capacity(alloc, 2)?;
+    numbers.push_reserved(2 * i.0 - 1);
+    numbers.push_reserved(2 * j.0 - 2);
+    Ok(numbers)
 }

@@ -1,0 +1,9 @@
+use Rattle.std.proofs.Common.{◌≡◌, map, take}
+use Rattle.stn_model.specs.declared.ids.PointId.{PointId}
+use Rattle.private_elim.proofs.eliminate.take_listed.Given as goal
+
+abbrev pub invariant-loop-n : goal.invariant-loop-n
+invariant-loop-n g l = record {
+  local : l.part.local ≡ l.fn.part.local;
+  taken : l.part.order ≡ take l.n (map (λ (p : PointId). p.0) l.order);
+}

@@ -1,0 +1,13 @@
+use Rattle.std.proofs.Common.{◌≡◌, ◌-◌, length, ℕ}
+use Rattle.std.specs.Prelude.{reverse}
+use Rattle.private_elim.specs.Picked.{ArePicked}
+use Rattle.private_elim.proofs.eliminate.take_picked.Given as goal
+
+abbrev pub invariant-taking : goal.invariant-taking
+invariant-taking g l = record {
+  local : l.part.local ≡ l.fn.part.local;
+  picked : ArePicked (λ degree number answer. (goal.Fn-dyn g).post (l.picker.key.vtable, l.picker.key.value) (degree, (number, tt)) answer) l.part.local (reverse l.part.order);
+}
+
+abbrev pub decreases-taking : goal.decreases-taking
+decreases-taking g l = 4096 - length l.part.order

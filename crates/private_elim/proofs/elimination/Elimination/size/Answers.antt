@@ -1,0 +1,5 @@
+use Rattle.private_elim.proofs.Takes.{facts}
+use Rattle.private_elim.proofs.elimination.Elimination.size.Goals as goal
+
+pub returns-clause-facts : goal.returns-clause-facts
+returns-clause-facts c = rw (← c.self.view_is) (facts _ _ _ _ _ c.self.invariant.taken)

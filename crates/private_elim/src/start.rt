@@ -1,0 +1,97 @@
+//! The start of an elimination: the weights and joined places of the arcs alone.
+ghost use Rattle.std.specs.Prelude.{◌≡◌, ◌≢◌, ℕ, ◌+◌, ◌<◌, ◌||◌, ◌&&◌, ◌==◌, not, true, false, [], None, IfOk, length, replicate, slice_index_or, take};
+ghost use Rattle.dist_rows.specs.Matrix.{cell_at};
+ghost use Rattle.elim_step.specs.JoinedPlaces.{is_joined};
+ghost use Rattle.private_elim.specs.Locals.{all_numbered, local_arc_at};
+ghost use Rattle.private_elim.specs.Degrees.{degree_of};
+ghost use Rattle.private_elim.specs.Laid.{IsLaid, IsLaidArc};
+
+use crate::elimination::Elimination;
+use crate::local::Local;
+use dist_rows::{Cell, MatrixRows, Rows, Via};
+use elim_step::Joins;
+use std::alloc::Global;
+use stn_model::OutOfMemory;
+
+impl Elimination {
+    /// A copy of a local problem of which no point is taken yet.
+    pub fn start(alloc: Global, local: &Local) -> Result<Elimination, OutOfMemory>
+        requires { all_numbered local.now.arcs ≡ true }
+        ensures local { IfOk result (λ e. e.local ≡ local.now) }
+        ensures order { IfOk result (λ e. e.order ≡ []) }
+    {
+        let size = local.size();
+        let local = local.copy(alloc)?;
+        let mut rows = MatrixRows::new(alloc, size)?;
+        let mut joins = Joins::new(alloc, size)?;
+        lay_arcs(&local, &mut rows, &mut joins);
+        let remain = vec![in alloc; true; size as usize]?;
+        let degrees = count_all(alloc, &joins, remain.as_slice())?;
+        let order = Vec::with_capacity(alloc, size as usize)?;
+        Ok(Elimination {
+            local,
+            rows,
+            joins,
+            remain,
+            degrees,
+            order,
+        })
+    }
+}
+
+// Writes the arcs of a local problem into cells without weights, and joins their ends.
+fn lay_arcs(local: &Local, rows: &mut MatrixRows, joins: &mut Joins)
+    requires size { rows.old.size ≡ length local.now.points }
+    requires joins_size { joins.old.size ≡ length local.now.points }
+    requires empty { (p q : ℕ) → cell_at rows.old.size rows.old.slots.items p q ≡ None }
+    requires apart { (p q : ℕ) → is_joined joins.old p q ≡ false }
+    ensures size { rows.new.size ≡ rows.old.size }
+    ensures joins_size { joins.new.size ≡ joins.old.size }
+    ensures laid { IsLaid local.now (length local.now.arcs) (cell_at rows.new.size rows.new.slots.items) (is_joined joins.new) }
+{
+    let _places = local.size();
+    for k in 0..local.arcs() {
+        lay_arc(local, rows, joins, k);
+    }
+}
+
+// Writes one arc into its cell, and joins its ends.
+fn lay_arc(local: &Local, rows: &mut MatrixRows, joins: &mut Joins, k: u32)
+    requires within { k < length local.now.arcs }
+    requires size { rows.old.size ≡ length local.now.points }
+    requires joins_size { joins.old.size ≡ length local.now.points }
+    ensures size { rows.new.size ≡ rows.old.size }
+    ensures joins_size { joins.new.size ≡ joins.old.size }
+    ensures arc { IsLaidArc local.now k (cell_at rows.old.size rows.old.slots.items) (cell_at rows.new.size rows.new.slots.items) (is_joined joins.old) (is_joined joins.new) }
+{
+    let _places = local.size();
+    let arc = local.arc(k).arc;
+    let Some(from) = local.place_of(arc.from) else {
+        unreachable!()
+    };
+    let Some(to) = local.place_of(arc.to) else {
+        unreachable!()
+    };
+    rows.lower(
+        from,
+        to,
+        Cell {
+            weight: arc.bound as i128,
+            via: Via::Given(k),
+        },
+    );
+    joins.join(from, to);
+}
+
+// With how many places that remain each place is joined.
+fn count_all(alloc: Global, joins: &Joins, remain: &[bool]) -> Result<Vec<u32>, OutOfMemory>
+    requires { length remain.now ≡ joins.now.size }
+    ensures len { IfOk result (λ v. length v.items ≡ joins.now.size) }
+    ensures each { IfOk result (λ v. (p : ℕ) → p < joins.now.size → slice_index_or v.items p 0 ≡ degree_of remain.now joins.now p) }
+{
+    let mut degrees = Vec::with_capacity(alloc, joins.size() as usize)?;
+    for p in 0..joins.size() {
+        degrees.push(joins.count(p, remain))?;
+    }
+    Ok(degrees)
+}
