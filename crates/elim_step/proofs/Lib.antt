@@ -8,3 +8,4 @@ pub mod JoinWrites
 pub mod Weights
 pub mod Sound
 pub mod JoinFacts
+pub mod FinalWeights

@@ -29,3 +29,11 @@ pub mod Between
 pub mod Detours
 pub mod ReducedWalks
 pub mod Answered
+pub mod OwnWalks
+pub mod Orders
+pub mod SweepParts
+pub mod Sweeps
+pub mod Entries
+pub mod SweepEnds
+pub mod Bounds
+pub mod SweepTurns

@@ -17,3 +17,4 @@ pub mod Laid
 pub mod Numbers
 pub mod Candidates
 pub mod Outcomes
+pub mod Sweeps

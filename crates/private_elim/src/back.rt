@@ -1,49 +1,66 @@
 //! The back sweep: an agent's least bounds with its private points, from those between the points that others see.
-ghost use Rattle.std.specs.Prelude.{◌≡◌, ℕ, true, IfOk, is_some};
-ghost use Rattle.private_elim.specs.Backs.{bound_between, IsPrivatePair, HoldsFinals, IsLeastIn};
-ghost use Rattle.private_elim.specs.Reductions.{OfNetwork};
+ghost use Rattle.std.specs.Prelude.{◌≡◌, ℕ, ◌<◌, IfOk, IfSome, length};
+ghost use Rattle.std.specs.List.{AllPairs};
+ghost use Rattle.private_elim.specs.Locals.{place_in};
 
-use crate::reduced::Reduced;
-use dist_rows::MatrixRows;
-use elim_step::Summary;
+pub use crate::back_revisits::back_sweep;
+use dist_rows::{MatrixRows, Rows};
 use std::alloc::Global;
 use stn_model::{OutOfMemory, PointId};
 
 /// Least bounds between pairs of an agent's points, one of them at least private.
 #[derive(Drop)]
 pub struct PrivateBounds {
-    points: Vec<u32>,
-    private: Vec<bool>,
-    finals: MatrixRows,
+    pub(crate) points: Vec<u32>,
+    pub(crate) private: Vec<bool>,
+    pub(crate) finals: MatrixRows,
+    ghost square: { finals.size ≡ length points.items },
+    ghost one_each: { length private.items ≡ length points.items },
+    ghost rising: { AllPairs (λ p q. p < q) points.items },
 }
 
 impl PrivateBounds {
+    ghost use Rattle.private_elim.specs.Backs.{bound_between};
+
     /// The least bound on `time(j) - time(i)`. None exactly for a pair that the sweep did not give: equal points, a point that is not
     /// of the local problem, two points that are not private, or a pair that is not joined. Takes no memory.
     pub fn get(&self, i: PointId, j: PointId) -> Option<i128>
         ensures { result ≡ bound_between self.now i.0 j.0 }
     {
-        unreachable!()
+        let Some(from) = self.place_of(i) else {
+            return None;
+        };
+        let Some(to) = self.place_of(j) else {
+            return None;
+        };
+        if !self.private[from as usize] && !self.private[to as usize] {
+            return None;
+        }
+        self.finals.get(from, to).map(|cell| cell.weight)
     }
 
     /// Equal bounds.
     pub fn copy(&self, alloc: Global) -> Result<PrivateBounds, OutOfMemory>
         ensures { IfOk result (λ b. (i j : ℕ) → bound_between b i j ≡ bound_between self.now i j) }
     {
-        unreachable!()
+        let points = Vec::from_slice(alloc, self.points.as_slice())?;
+        let private = Vec::from_slice(alloc, self.private.as_slice())?;
+        let finals = self.finals.copy(alloc)?;
+        Ok(PrivateBounds {
+            points,
+            private,
+            finals,
+        })
     }
-}
 
-/// The least bounds for each joined pair with a private point, where `finals` holds the least bound of each pair of the summary in a
-/// network whose local problem was reduced. The private points are revisited in the order opposite to that in which they were taken.
-pub fn back_sweep(
-    alloc: Global,
-    reduced: &Reduced,
-    finals: &Summary,
-) -> Result<PrivateBounds, OutOfMemory>
-    ensures only { IfOk result (λ b. (i j : ℕ) → is_some (bound_between b i j) ≡ true → IsPrivatePair reduced.now i j) }
-    ensures least { IfOk result (λ b. OfNetwork reduced.now.local (λ net. HoldsFinals net reduced.now.local.agent finals.now
-        → (i j : ℕ) → IsPrivatePair reduced.now i j → IsLeastIn net i j (bound_between b i j))) }
-{
-    unreachable!()
+    // The place of a point; None exactly where it is no point of the local problem.
+    fn place_of(&self, point: PointId) -> Option<u32>
+        ensures value { result ≡ place_in self.now.points.items point.0 }
+        ensures within { IfSome result (λ k. (k < self.now.finals.size) × (k < length self.now.private.items)) }
+    {
+        match self.points.binary_search(&point.0) {
+            Ok(place) => Some(place as u32),
+            Err(_) => None,
+        }
+    }
 }

@@ -3,6 +3,8 @@
 
 mod arc_list;
 pub mod back;
+mod back_revisits;
+mod back_start;
 mod candidates;
 mod conflict;
 pub mod eliminate;

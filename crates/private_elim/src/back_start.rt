@@ -1,0 +1,105 @@
+//! What a back sweep begins with: an agent's points, by place, and the final cells between those that others see.
+ghost use Rattle.std.specs.Prelude.{◌≡◌, ◌≢◌, ℕ, ◌+◌, ◌<◌, true, false, not, IfOk, IfSome, IfNone, length, take, slice_index_or};
+ghost use Rattle.std.specs.List.{AllPairs};
+ghost use Rattle.dist_rows.specs.Matrix.{cell_at};
+ghost use Rattle.elim_step.specs.Summaries.{is_summary};
+ghost use Rattle.private_elim.specs.Locals.{IsLocal, point_at, private_at};
+ghost use Rattle.private_elim.specs.Sweeps.{HasGiven};
+
+use crate::local::Local;
+use dist_rows::{Cell, MatrixRows, Rows, Via};
+use elim_step::SummaryEntry;
+use std::alloc::Global;
+use stn_model::{OutOfMemory, PointId};
+
+/// The points, by place.
+pub fn points_by_place(alloc: Global, local: &Local) -> Result<Vec<u32>, OutOfMemory>
+    ensures points { IfOk result (λ points. points.items ≡ local.now.points) }
+    ensures rising { IfOk result (λ points. AllPairs (λ p q. p < q) points.items) }
+{
+    let mut points = Vec::with_capacity(alloc, local.size() as usize)?;
+    for place in 0..local.size() {
+        points.push_reserved(local.point(place).0);
+    }
+    Ok(points)
+}
+
+/// Whether each place is private.
+pub fn private_places(alloc: Global, local: &Local) -> Result<Vec<bool>, OutOfMemory>
+    ensures len { IfOk result (λ flags. length flags.items ≡ length local.now.points) }
+    ensures each { IfOk result (λ flags. (p : ℕ) → p < length local.now.points → slice_index_or flags.items p false ≡ private_at local.now p) }
+{
+    let mut private = Vec::with_capacity(alloc, local.size() as usize)?;
+    for place in 0..local.size() {
+        private.push_reserved(local.is_private(place));
+    }
+    Ok(private)
+}
+
+/// The places that are not private, from those that are.
+pub fn seen_places(alloc: Global, private: &[bool]) -> Result<Vec<bool>, OutOfMemory>
+    ensures len { IfOk result (λ seen. length seen.items ≡ length private.now) }
+    ensures each { IfOk result (λ seen. (p : ℕ) → p < length private.now → slice_index_or seen.items p false ≡ not (slice_index_or private.now p false)) }
+{
+    let mut seen = Vec::with_capacity(alloc, private.len())?;
+    for &private in private {
+        seen.push_reserved(!private);
+    }
+    Ok(seen)
+}
+
+// The place of a point that is not private; None exactly where the local problem has no such point.
+fn seen_place(local: &Local, point: PointId) -> Option<u32>
+    requires known { IsLocal local.now }
+    ensures some { IfSome result (λ k. (k < length local.now.points) × (private_at local.now k ≡ false) × (point_at local.now.points k ≡ point.0)) }
+    ensures none { IfNone result ((k : ℕ) → k < length local.now.points → private_at local.now k ≡ false → point_at local.now.points k ≢ point.0) }
+{
+    let Some(place) = local.place_of(point) else {
+        return None;
+    };
+    if local.is_private(place) {
+        return None;
+    }
+    Some(place)
+}
+
+// Adds the entry of number n to the final cells of those before it, where it is between places that are not private.
+fn add_entry(local: &Local, entries: &[SummaryEntry], n: usize, finals: &mut MatrixRows)
+    requires known { IsLocal local.now }
+    requires within { n < length entries.now }
+    requires valid { is_summary entries.now ≡ true }
+    requires size { finals.old.size ≡ length local.now.points }
+    requires given { HasGiven local.now (take n entries.now) (cell_at finals.old.size finals.old.slots.items) }
+    ensures size { finals.new.size ≡ finals.old.size }
+    ensures given { HasGiven local.now (take (n + 1) entries.now) (cell_at finals.new.size finals.new.slots.items) }
+{
+    let entry = entries[n];
+    let Some(from) = seen_place(local, entry.from) else {
+        return;
+    };
+    let Some(to) = seen_place(local, entry.to) else {
+        return;
+    };
+    let cell = Cell {
+        weight: entry.weight,
+        via: Via::Published(local.agent()),
+    };
+    finals.lower(from, to, cell);
+}
+
+/// The final cells of the entries between places that are not private.
+pub fn given_finals(
+    alloc: Global,
+    local: &Local,
+    entries: &[SummaryEntry],
+) -> Result<MatrixRows, OutOfMemory>
+    requires valid { is_summary entries.now ≡ true }
+    ensures size { IfOk result (λ r. r.size ≡ length local.now.points) }
+    ensures given { IfOk result (λ r. HasGiven local.now entries.now (cell_at r.size r.slots.items)) }
+{
+    let mut finals = MatrixRows::new(alloc, local.size())?;
+    for n in 0..entries.len() {
+        add_entry(local, entries, n, &mut finals);
+    }
+    Ok(finals)
+}
