@@ -12,13 +12,13 @@ use Rattle.stn_model.specs.declared.ids.Constraint.{Constraint}
 use Rattle.stn_walk.specs.Eliminations.{is_in, before_both}
 use Rattle.stn_walk.specs.Joins.{has_edge, joined_of}
 use Rattle.stn_walk.proofs.Joins.{joined-symmetric}
+use Rattle.stn_walk.proofs.Eliminations.{before-whole}
 use Rattle.elim_step.specs.Eliminates.{remains}
 use Rattle.elim_step.specs.Eliminated.{point_at}
 use Rattle.elim_step.specs.Revisits.{names_once}
 use Rattle.elim_step.specs.JoinedPlaces.{joined_at}
 use Rattle.elim_step.specs.Blocks as blocks
 use Rattle.elim_step.proofs.Regions.{and-false}
-use Rattle.elim_step.proofs.Weights.{before-whole}
 
 -- before any elimination
 pub joined-before : (arcs : List Constraint) (points : List ℕ) (f : ℕ → ℕ → Bool)

@@ -4,24 +4,16 @@ use Rattle.std.specs.Prelude.{ℤ, ◌==◌, is_some, IfSome, nat_abs}
 use Rattle.std.proofs.lemmas.Bool.{cases_lt}
 use Rattle.std.proofs.lemmas.Bool.Decides.{nat_tests}
 use Rattle.stn_model.specs.declared.ids.Constraint.{Constraint}
-use Rattle.stn_model.specs.ArcWalks.{NoNegative, IsInnerLeast, IsInner, GoesOn}
+use Rattle.stn_model.specs.ArcWalks.{NoNegative, IsInnerLeast, IsInner}
 use Rattle.stn_walk.specs.Eliminations.{is_in, cell_of, before_both, IsNotBelow}
-use Rattle.stn_walk.proofs.Eliminations.{cell-least, stays}
+use Rattle.stn_walk.proofs.Visits.{inner_in}
+use Rattle.stn_walk.proofs.Eliminations.{cell-least, stays, before-in}
 use Rattle.stn_walk.proofs.LightWalks.{IsBelow, HasBounds, cells_light}
 use Rattle.dist_rows.specs.declared.cell.Cell.{Cell}
 use Rattle.dist_rows.specs.Cells.{IsLight, AllLight}
 use Rattle.elim_step.specs.Eliminates.{remains, is_pair, eliminated, is_negative, is_below}
 use Rattle.elim_step.specs.Eliminated.{weight_at, point_at, forward_of, IsGround, IsEliminated}
-use Rattle.elim_step.proofs.Weights.{weight-through, forward-whole, forward-kept, before-in, sums_below, negative-is, not_below}
-
--- the set of fewer points
-goes_in : (inner more : ℕ → Bool) (arcs : List Constraint) (m j : ℕ) (w : List Constraint) → ((p : ℕ) → inner p ≡ true → more p ≡ true) → GoesOn inner arcs m j w → GoesOn more arcs m j w
-goes_in inner more arcs m j [] up h = h
-goes_in inner more arcs m j (a ∷ w) up h = (up m h.0, h.1, h.2, goes_in inner more arcs a.to.0 j w up h.3)
-
-pub inner_in : (inner more : ℕ → Bool) (arcs : List Constraint) (i j : ℕ) (w : List Constraint) → ((p : ℕ) → inner p ≡ true → more p ≡ true) → IsInner inner arcs i j w → IsInner more arcs i j w
-inner_in inner more arcs i j [] up h = h
-inner_in inner more arcs i j (a ∷ w) up h = (h.0, h.1, goes_in inner more arcs a.to.0 j w up h.2)
+use Rattle.elim_step.proofs.Weights.{weight-through, forward-whole, forward-kept, sums_below, negative-is, not_below}
 
 module _ (points : List ℕ) (arcs : List Constraint) (ground : IsGround points arcs) where
   -- whether a point is one of the list

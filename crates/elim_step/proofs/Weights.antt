@@ -1,8 +1,9 @@
 -- Weights of cells under one elimination and one revisit.
-use Rattle.std.proofs.Common.{◌≡◌, ℕ, List, [], ◌∷◌, Bool, true, false, ◌||◌, Option, Some, None, ap, refl, arith}
-use Rattle.std.specs.Prelude.{ℤ, pos, ◌==◌, if◌then◌else◌, int_lt, ◌+ℤ◌}
+use Rattle.std.proofs.Common.{◌≡◌, ℕ, List, ◌∷◌, Bool, true, false, ◌||◌, Option, Some, None, ap, refl, arith}
+use Rattle.std.specs.Prelude.{ℤ, pos, if◌then◌else◌, int_lt, ◌+ℤ◌}
 use Rattle.std.proofs.lemmas.Int.{ints}
 use Rattle.stn_model.specs.declared.ids.Constraint.{Constraint}
+use Rattle.stn_walk.proofs.Eliminations.{before-whole}
 use Rattle.stn_walk.specs.Eliminations.{is_in, cell_of, before_both, lesser, sum_of, IsNotBelow}
 use Rattle.dist_rows.specs.declared.cell.Cell.{Cell}
 use Rattle.dist_rows.specs.declared.cell.Via.TheVariants.{Through}
@@ -21,25 +22,12 @@ weight-through k (Some x) (Some y) None = refl
 weight-through k None (Some y) (Some z) = refl
 weight-through k (Some x) (Some y) (Some z) = picked (int_lt (y.weight +ℤ z.weight) x.weight) (record { weight = y.weight +ℤ z.weight; via = Through k }) x
 
-pub before-whole : (es : List ℕ) (i j : ℕ) → is_in es i ≡ false → is_in es j ≡ false → before_both es i j ≡ es
-before-whole [] i j h g = refl
-before-whole (k ∷ es) i j h g = rw (h, g) refl
-
 pub forward-whole : (arcs : List Constraint) (es : List ℕ) (i j : ℕ) → is_in es i ≡ false → is_in es j ≡ false → forward_of arcs es i j ≡ cell_of arcs es i j
 forward-whole arcs es i j h g = ap (λ o. cell_of arcs o i j) (before-whole es i j h g)
 
 -- a pair that the elimination does not touch
 pub forward-kept : (arcs : List Constraint) (k : ℕ) (es : List ℕ) (i j : ℕ) → (is_in (k ∷ es) i || is_in (k ∷ es) j) ≡ true → forward_of arcs (k ∷ es) i j ≡ forward_of arcs es i j
 forward-kept arcs k es i j h = ap (λ b. cell_of arcs (if b then before_both es i j else k ∷ es) i j) h
-
--- the points before both are eliminated
-pub before-in : (es : List ℕ) (i j p : ℕ) → is_in (before_both es i j) p ≡ true → is_in es p ≡ true
-before-in [] i j p h = h
-before-in (k ∷ es) i j p h =
-    elim (is_in (k ∷ es) i || is_in (k ∷ es) j) as (λ b. is_in (if b then before_both es i j else k ∷ es) p ≡ true → is_in (k ∷ es) p ≡ true) [
-      | true ↦ λ g. ap (λ b. b || (p == k)) (before-in es i j p g)
-      | false ↦ λ g. g
-    ] h
 
 -- whether two weights are there and sum below 0
 abbrev pub sums_below : Option ℤ → Option ℤ → Bool

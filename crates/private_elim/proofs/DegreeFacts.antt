@@ -8,10 +8,10 @@ use Rattle.stn_walk.specs.Eliminations.{is_in, before_both}
 use Rattle.stn_walk.specs.Joins.{joined_of, HasPath}
 use Rattle.stn_walk.proofs.Different.{AllDifferent-push}
 use Rattle.stn_walk.proofs.Joins.{path-from_joined, joined-from_path}
+use Rattle.stn_walk.proofs.Eliminations.{before-whole}
 use Rattle.dist_rows.specs.declared.cell.Cell.{Cell}
 use Rattle.elim_step.specs.Eliminates.{remains, count_below}
 use Rattle.elim_step.specs.Eliminated.{point_at}
-use Rattle.elim_step.proofs.Weights.{before-whole}
 use Rattle.private_elim.specs.Locals.{LocalView, arcs_in, is_point_of, place_in}
 use Rattle.private_elim.specs.Taken.{IsTaken}
 use Rattle.private_elim.specs.Picked.{IsMet, IsDegree}

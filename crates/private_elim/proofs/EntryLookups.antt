@@ -7,9 +7,9 @@ use Rattle.stn_model.specs.declared.ids.Constraint.{Constraint}
 use Rattle.stn_model.specs.ArcWalks.{IsInnerLeast}
 use Rattle.stn_model.specs.Net.{Net}
 use Rattle.stn_model.specs.Summaries.{Entry, IsEntryWeight, entry_weight}
+use Rattle.stn_walk.proofs.Visits.{least_unique}
 use Rattle.elim_step.specs.declared.summary.SummaryEntry.{SummaryEntry}
 use Rattle.private_elim.specs.ReducedViews.{entry_of, entry_in}
-use Rattle.private_elim.proofs.Failing.{least_same}
 
 -- whether an entry is that of a pair
 abbrev is_entry_of : SummaryEntry → ℕ → ℕ → Bool
@@ -49,13 +49,7 @@ found_some (e ∷ es) i j w (suc k, within, is) =
       | false ↦ λ t. ap is_some (entry_later e es i j t) ∙ found_some es i j w (k, omega arith, is)
     ] refl
 
--- inner least weights are unique
-least_unique : (inner : ℕ → Bool) (arcs : List Constraint) (i j : ℕ) (x y : Option ℤ) → IsInnerLeast inner arcs i j x → IsInnerLeast inner arcs i j y → x ≡ y
-least_unique inner arcs i j None None h g = refl
-least_unique inner arcs i j None (Some b) h g = absurd (h g.0.0 g.0.1)
-least_unique inner arcs i j (Some a) y h g = sym (least_same inner arcs i j a y h g)
-
--- so is the weight of a pair's entry
+-- the weight of a pair's entry is unique
 pub entry_unique : (net : Net) (agent i j : ℕ) (v w : ℤ) → IsEntryWeight net agent i j v → IsEntryWeight net agent i j w → v ≡ w
 entry_unique net agent i j v w h g =
     h.2 ∙ ap (entry_weight net.horizon) (least_unique _ _ i j h.0 g.0 h.1.least g.1.least) ∙ sym g.2

@@ -9,22 +9,12 @@ use Rattle.stn_model.specs.Walks.{IsWalk, weight, IsNegativeClosed}
 use Rattle.stn_model.proofs.WalkLemmas.{IsWalk-append, weight-append}
 use Rattle.stn_walk.specs.Eliminations.{is_in, cell_of}
 use Rattle.stn_walk.proofs.ArcWalks.{arcs_weight-append}
-use Rattle.stn_walk.proofs.Visits.{inner_joined}
+use Rattle.stn_walk.proofs.Visits.{least_unique, inner_joined}
 use Rattle.stn_walk.proofs.Eliminations.{cell-least}
 use Rattle.elim_step.specs.Eliminated.{forward_of}
 use Rattle.elim_step.proofs.Weights.{forward-whole}
 use Rattle.private_elim.specs.Locals.{LocalView, arcs_in}
 use Rattle.private_elim.specs.Taken.{Fails}
-
--- there is at most one inner least weight
-pub least_same : (inner : ℕ → Bool) (arcs : List Constraint) (i j : ℕ) (a : ℤ) (o : Option ℤ)
-    → IsInnerLeast inner arcs i j (Some a) → IsInnerLeast inner arcs i j o → o ≡ Some a
-least_same inner arcs i j a None h g = absurd (g h.0.0 h.0.1)
-least_same inner arcs i j a (Some b) h g =
-    let low = h.1 g.0.0 g.0.1 in
-    let high = g.1 h.0.0 h.0.1 in
-    let e : b ≡ a = omega (arith, ints, h.0.2, g.0.2) in
-    ap Some e
 
 module _ (v : LocalView) (taken : List ℕ) (p q : ℕ) (none_below : NoNegative (is_in taken) (arcs_in v)) (h : Fails v taken p q) where
   -- a taken point does not fail: the two walks would be a closed one at the other point
@@ -44,12 +34,12 @@ module _ (v : LocalView) (taken : List ℕ) (p q : ℕ) (none_below : NoNegative
   pub failing_out : forward_of (arcs_in v) taken p q ≡ Some h.out
   failing_out =
       forward-whole (arcs_in v) taken p q failing_left h.left
-      ∙ least_same (is_in taken) (arcs_in v) p q h.out (cell_of (arcs_in v) taken p q) h.is_out.least (cell-least (arcs_in v) taken none_below p q)
+      ∙ least_unique (is_in taken) (arcs_in v) p q (cell_of (arcs_in v) taken p q) (Some h.out) (cell-least (arcs_in v) taken none_below p q) h.is_out.least
 
   pub failing_back : forward_of (arcs_in v) taken q p ≡ Some h.back
   failing_back =
       forward-whole (arcs_in v) taken q p h.left failing_left
-      ∙ least_same (is_in taken) (arcs_in v) q p h.back (cell_of (arcs_in v) taken q p) h.is_back.least (cell-least (arcs_in v) taken none_below q p)
+      ∙ least_unique (is_in taken) (arcs_in v) q p (cell_of (arcs_in v) taken q p) (Some h.back) (cell-least (arcs_in v) taken none_below q p) h.is_back.least
 
   -- walks of these weights, out and back
   pub closes_below : (ns ms : List ℕ) → IsWalk (arcs_in v) p q ns → Some (weight (arcs_in v) ns) ≡ forward_of (arcs_in v) taken p q

@@ -15,7 +15,7 @@ use Rattle.stn_model.specs.Conflicts.{own_arcs, IsOwnConflict}
 use Rattle.stn_model.proofs.WalkLemmas.{IsWalk-append, IsWalk-front, IsWalk-back, weight-append}
 use Rattle.stn_model.proofs.Bridges.{arcs_weight-map}
 use Rattle.stn_walk.specs.Eliminations.{is_in}
-use Rattle.elim_step.proofs.Sound.{inner_in}
+use Rattle.stn_walk.proofs.Visits.{inner_in}
 use Rattle.private_elim.specs.Locals.{LocalView, local_of, numbered_own, arcs_in, is_private_in}
 use Rattle.private_elim.proofs.OwnArcs.{numbered_arc, numbered_plain, own_contained}
 use Rattle.private_elim.proofs.ButOne.{fails_once, fails_more, all_pass}

@@ -14,7 +14,6 @@ use Rattle.std.proofs.lemmas.List.{length-reverse, get_or-reverse}
 use Rattle.stn_model.specs.Walks.{AllDifferent}
 use Rattle.stn_walk.specs.Eliminations.{is_in, before_both}
 use Rattle.stn_walk.proofs.Different.{AllDifferent-from_index, different_at}
-use Rattle.elim_step.proofs.Weights.{before-whole}
 
 -- the first of a list is in it
 pub in-first : (k : ℕ) (es : List ℕ) → is_in (k ∷ es) k ≡ true

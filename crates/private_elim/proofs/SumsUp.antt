@@ -16,11 +16,11 @@ use Rattle.stn_model.specs.Conflicts.{own_arcs}
 use Rattle.stn_model.specs.Summaries.{Entry, IsSeenPair, IsEntryWeight, IsSummary, entry_weight, is_seen}
 use Rattle.stn_walk.specs.Eliminations.{is_in, before_both}
 use Rattle.stn_walk.specs.Joins.{joined_of, HasPath}
-use Rattle.stn_walk.proofs.Eliminations.{cell-least}
+use Rattle.stn_walk.proofs.Eliminations.{cell-least, before-whole}
 use Rattle.stn_walk.proofs.Joins.{path-from_joined, joined-from_path}
 use Rattle.elim_step.specs.declared.summary.SummaryEntry.{SummaryEntry}
 use Rattle.elim_step.specs.Summaries.{is_valid, is_summary}
-use Rattle.elim_step.proofs.Weights.{before-whole, forward-whole}
+use Rattle.elim_step.proofs.Weights.{forward-whole}
 use Rattle.private_elim.specs.Locals.{local_of, arcs_in, point_at, place_in, private_at, passes_at, is_private_in, is_seen_in, horizon_in}
 use Rattle.private_elim.specs.ReducedViews.{entry_of, IsReduced}
 use Rattle.private_elim.specs.Taken.{TakenView, HasTaken}

@@ -19,13 +19,13 @@ use Rattle.stn_walk.specs.Eliminations.{is_in, before_both}
 use Rattle.stn_walk.proofs.Exits.{every}
 use Rattle.stn_walk.proofs.Joins.{is_in-reverse, before_both-from_order}
 use Rattle.stn_walk.proofs.Distances.{bound_inner_least, inner_least_bound, network_bound_there, network_ends}
+use Rattle.stn_walk.proofs.Eliminations.{before-in}
 use Rattle.dist_rows.specs.declared.cell.Cell.{Cell}
 use Rattle.dist_rows.specs.Matrix.{cell_at}
 use Rattle.elim_step.specs.declared.summary.SummaryEntry.{SummaryEntry}
 use Rattle.elim_step.specs.Summaries.{is_summary}
 use Rattle.elim_step.specs.Eliminates.{remains}
 use Rattle.elim_step.specs.Eliminated.{weight_at}
-use Rattle.elim_step.proofs.Weights.{before-in}
 use Rattle.private_elim.specs.declared.back.PrivateBounds.{PrivateBounds}
 use Rattle.private_elim.specs.Locals.{LocalView, local_of, arcs_in, point_at, place_in, private_at, passes_at, is_private_in, is_seen_in}
 use Rattle.private_elim.specs.Taken.{IsTaken}

@@ -16,14 +16,13 @@ use Rattle.stn_model.specs.Joined.{IsJoined}
 use Rattle.stn_model.specs.Walks.{AllDifferent}
 use Rattle.stn_walk.specs.Eliminations.{is_in, before_both, cell_of}
 use Rattle.stn_walk.specs.Joins.{joined_of}
-use Rattle.stn_walk.proofs.Eliminations.{cell-least}
+use Rattle.stn_walk.proofs.Eliminations.{cell-least, before-in}
 use Rattle.stn_walk.proofs.Joins.{is_in-reverse, joined-symmetric, joined-from_walk, joined-from_order, order-from_joined}
 use Rattle.stn_walk.proofs.Different.{few_different}
 use Rattle.stn_walk.proofs.LightWalks.{IsBelow, HasBounds, least_light}
+use Rattle.stn_walk.proofs.Visits.{inner_in}
 use Rattle.dist_rows.specs.declared.cell.Cell.{Cell}
 use Rattle.elim_step.specs.Eliminated.{weight_at, forward_of}
-use Rattle.elim_step.proofs.Weights.{before-in}
-use Rattle.elim_step.proofs.Sound.{inner_in}
 use Rattle.elim_step.proofs.FinalWeights.{IsApart}
 use Rattle.private_elim.specs.Locals.{LocalView, arcs_in, point_at, private_at, place_in, passes_at, is_private_in}
 use Rattle.private_elim.specs.Taken.{IsTaken}

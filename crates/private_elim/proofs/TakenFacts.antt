@@ -8,12 +8,11 @@ use Rattle.stn_model.specs.declared.ids.Constraint.{Constraint}
 use Rattle.stn_model.specs.ArcWalks.{NoNegative, IsInner, IsInnerLeast, GoesOn}
 use Rattle.stn_model.specs.Inner.{NoNegativeWithin, IsInnerWeight}
 use Rattle.stn_walk.specs.Eliminations.{is_in, before_both}
-use Rattle.stn_walk.proofs.Eliminations.{cell-least}
+use Rattle.stn_walk.proofs.Eliminations.{cell-least, before-in}
 use Rattle.stn_walk.proofs.Joins.{is_in-reverse}
 use Rattle.stn_walk.proofs.LightWalks.{IsBelow, HasBounds, least_light}
+use Rattle.stn_walk.proofs.Visits.{inner_in}
 use Rattle.elim_step.specs.Eliminated.{forward_of}
-use Rattle.elim_step.proofs.Sound.{inner_in}
-use Rattle.elim_step.proofs.Weights.{before-in}
 use Rattle.private_elim.specs.Locals.{LocalView, IsLocal, arcs_in, place_in, is_private_in}
 use Rattle.private_elim.specs.Taken.{TakenView, HasTaken}
 use Rattle.private_elim.proofs.Places.{place_contained, place_missing}

@@ -12,16 +12,16 @@ use Rattle.stn_model.specs.Walks.{AllDifferent}
 use Rattle.stn_walk.specs.Eliminations.{is_in, cell_of, before_both}
 use Rattle.stn_walk.specs.Joins.{joined_of}
 use Rattle.stn_walk.proofs.ArcWalks.{arcs_weight-append}
-use Rattle.stn_walk.proofs.Visits.{inner_joined, inner_wider, at_point}
-use Rattle.stn_walk.proofs.Eliminations.{cell-least}
+use Rattle.stn_walk.proofs.Visits.{inner_joined, inner_wider, least_unique, at_point, inner_in}
+use Rattle.stn_walk.proofs.Eliminations.{cell-least, before-whole, before-in}
 use Rattle.stn_walk.proofs.LightWalks.{IsBelow, HasBounds, least_light}
 use Rattle.stn_walk.proofs.Different.{AllDifferent-push}
 use Rattle.stn_walk.proofs.Joins.{is_in-reverse, joined-symmetric}
 use Rattle.dist_rows.specs.declared.cell.Cell.{Cell}
 use Rattle.elim_step.specs.Eliminates.{remains, is_below, is_negative, eliminated}
 use Rattle.elim_step.specs.Eliminated.{IsGround, IsEliminated, IsListed, weight_at, point_at}
-use Rattle.elim_step.proofs.Weights.{before-whole, before-in, forward-whole, sums_below, negative-is}
-use Rattle.elim_step.proofs.Sound.{eliminates_more, inner_in}
+use Rattle.elim_step.proofs.Weights.{forward-whole, sums_below, negative-is}
+use Rattle.elim_step.proofs.Sound.{eliminates_more}
 use Rattle.elim_step.proofs.JoinFacts.{joined-after}
 use Rattle.private_elim.specs.Locals.{LocalView, IsLocal, arcs_in, is_private_in, is_point_of, place_in, private_at, passes_at}
 use Rattle.private_elim.specs.Origins.{HasOrigins}
@@ -108,17 +108,6 @@ none_fails v (p ∷ taken) none_below = (
       absurd (omega (arith, ints)),
   none_fails v taken (λ x w g. none_below x w (inner_wider (is_in taken) (arcs_in v) p x x w g)),
 )
-
--- there is at most one least weight
-pub least_unique : (inner : ℕ → Bool) (arcs : List Constraint) (i j : ℕ) (x : Option ℤ) (b : ℤ) → IsInnerLeast inner arcs i j x → IsInnerLeast inner arcs i j (Some b) → x ≡ Some b
-least_unique inner arcs i j None b h g = absurd (h g.0.0 g.0.1)
-least_unique inner arcs i j (Some a) b h g =
-    let low = h.1 g.0.0 g.0.1 in
-    let high = g.1 h.0.0 h.0.1 in
-    let e = g.0.2 in
-    let f = h.0.2 in
-    let same : a ≡ b = omega (arith, ints) in
-    ap (λ (x : ℤ). Some x) same
 
 -- two cells that sum below 0 are there
 record AreBelow (x y : Option Cell) : Type 0 where
@@ -211,8 +200,8 @@ module _ (v : LocalView) (order : List ℕ) (at : ℕ → ℕ → Option Cell) (
           let first : m < other = lower m lm is in
           let left : is_in (reverse order) (point_at v.points m) ≡ false = rw is f.left in
           let mk : m ≢ k = λ same. f.other (sym is ∙ ap (point_at v.points) same) in
-          let out = least_unique (is_in (reverse order)) (arcs_in v) (point_at v.points k) q (weight_at (at k m)) f.out (subst (λ (x : ℕ). IsInnerLeast (is_in (reverse order)) (arcs_in v) (point_at v.points k) x (weight_at (at k m))) is (open_weight k m lk lm (λ same. mk (sym same)) fresh left)) f.is_out.least in
-          let back = least_unique (is_in (reverse order)) (arcs_in v) q (point_at v.points k) (weight_at (at m k)) f.back (subst (λ (x : ℕ). IsInnerLeast (is_in (reverse order)) (arcs_in v) x (point_at v.points k) (weight_at (at m k))) is (open_weight m k lm lk mk left fresh)) f.is_back.least in
+          let out = least_unique (is_in (reverse order)) (arcs_in v) (point_at v.points k) q (weight_at (at k m)) (Some f.out) (subst (λ (x : ℕ). IsInnerLeast (is_in (reverse order)) (arcs_in v) (point_at v.points k) x (weight_at (at k m))) is (open_weight k m lk lm (λ same. mk (sym same)) fresh left)) f.is_out.least in
+          let back = least_unique (is_in (reverse order)) (arcs_in v) q (point_at v.points k) (weight_at (at m k)) (Some f.back) (subst (λ (x : ℕ). IsInnerLeast (is_in (reverse order)) (arcs_in v) x (point_at v.points k) (weight_at (at m k))) is (open_weight m k lm lk mk left fresh)) f.is_back.least in
           let stays : remains remain m ≡ true = h.cells.remaining m lm ∙ ap not left in
           let sum : is_negative (at k m) (at m k) ≡ true = negative-is (at k m) (at m k) ∙ ap (λ x. sums_below x (weight_at (at m k))) out ∙ ap (sums_below (Some f.out)) back ∙ low_sum f.out f.back f.below in
           let yes_below : is_below remain at k m ≡ true = (λ t. stays t && sum t) in

@@ -1,12 +1,12 @@
 -- Cells under elimination are inner least weights.
-use Rattle.std.proofs.Common.{◌≡◌, ◌≢◌, ℕ, ◌<◌, List, [], ◌∷◌, ◌++◌, Bool, true, false, ◌&&◌, Option, Some, None, ap, ◌∙◌, refl, arith, inl, inr, ◌⊎◌}
+use Rattle.std.proofs.Common.{◌≡◌, ◌≢◌, ℕ, ◌<◌, List, [], ◌∷◌, ◌++◌, Bool, true, false, ◌&&◌, ◌||◌, Option, Some, None, ap, ◌∙◌, refl, arith, inl, inr, ◌⊎◌}
 use Rattle.std.specs.Prelude.{ℤ, pos, ◌≤ℤ◌, ◌<ℤ◌, Contains, ◌==◌, int_lt, if◌then◌else◌}
 use Rattle.std.proofs.lemmas.Bool.Decides.{nat_tests}
 use Rattle.std.proofs.lemmas.Int.{ints}
 use Rattle.std.proofs.lemmas.List.Elements.{Contains-append_left, Contains-append_right, Contains-push, Contains-push_cases, Contains-append_cases}
 use Rattle.stn_model.specs.declared.ids.Constraint.{Constraint}
 use Rattle.stn_model.specs.ArcWalks.{arcs_weight, IsInner, IsInnerLeast, NoNegative}
-use Rattle.stn_walk.specs.Eliminations.{IsNotBelow, with_point, lesser, is_in, bound_of, cell_of, CellsAreLeast, StaysNonNegative}
+use Rattle.stn_walk.specs.Eliminations.{IsNotBelow, with_point, lesser, is_in, bound_of, cell_of, before_both, CellsAreLeast, StaysNonNegative}
 use Rattle.stn_walk.proofs.ArcWalks.{arcs_weight-append}
 use Rattle.stn_walk.proofs.Visits.{inner_wider, inner_joined, inner_cut, least_from, none_from, eliminates, wider}
 
@@ -131,3 +131,17 @@ cells_are_least = cell-least
 
 pub stays : StaysNonNegative
 stays arcs es k none_below sums = stays_nonnegative (is_in es) arcs k (cell_of arcs es) none_below (cell-least arcs es none_below) sums
+
+-- all of them come before two points that are not eliminated
+pub before-whole : (es : List ℕ) (i j : ℕ) → is_in es i ≡ false → is_in es j ≡ false → before_both es i j ≡ es
+before-whole [] i j h g = refl
+before-whole (k ∷ es) i j h g = rw (h, g) refl
+
+-- the points before both are eliminated
+pub before-in : (es : List ℕ) (i j p : ℕ) → is_in (before_both es i j) p ≡ true → is_in es p ≡ true
+before-in [] i j p h = h
+before-in (k ∷ es) i j p h =
+    elim (is_in (k ∷ es) i || is_in (k ∷ es) j) as (λ b. is_in (if b then before_both es i j else k ∷ es) p ≡ true → is_in (k ∷ es) p ≡ true) [
+      | true ↦ λ g. ap (λ b. b || (p == k)) (before-in es i j p g)
+      | false ↦ λ g. g
+    ] h

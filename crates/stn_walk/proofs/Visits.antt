@@ -19,6 +19,26 @@ pub inner_wider : (inner : ℕ → Bool) (arcs : List Constraint) (k i j : ℕ) 
 inner_wider inner arcs k i j [] h = h
 inner_wider inner arcs k i j (a ∷ w) h = (h.0, h.1, goes_wider inner arcs k a.to.0 j w h.2)
 
+-- the same of a test that lets more through
+goes_in : (inner more : ℕ → Bool) (arcs : List Constraint) (m j : ℕ) (w : List Constraint) → ((p : ℕ) → inner p ≡ true → more p ≡ true) → GoesOn inner arcs m j w → GoesOn more arcs m j w
+goes_in inner more arcs m j [] up h = h
+goes_in inner more arcs m j (a ∷ w) up h = (up m h.0, h.1, h.2, goes_in inner more arcs a.to.0 j w up h.3)
+
+pub inner_in : (inner more : ℕ → Bool) (arcs : List Constraint) (i j : ℕ) (w : List Constraint) → ((p : ℕ) → inner p ≡ true → more p ≡ true) → IsInner inner arcs i j w → IsInner more arcs i j w
+inner_in inner more arcs i j [] up h = h
+inner_in inner more arcs i j (a ∷ w) up h = (h.0, h.1, goes_in inner more arcs a.to.0 j w up h.2)
+
+-- there is at most one least weight
+pub least_unique : (inner : ℕ → Bool) (arcs : List Constraint) (i j : ℕ) (x y : Option ℤ) → IsInnerLeast inner arcs i j x → IsInnerLeast inner arcs i j y → x ≡ y
+least_unique inner arcs i j None None h g = refl
+least_unique inner arcs i j None (Some b) h g = absurd (h g.0.0 g.0.1)
+least_unique inner arcs i j (Some a) None h g = absurd (g h.0.0 h.0.1)
+least_unique inner arcs i j (Some a) (Some b) h g =
+    let low = h.1 g.0.0 g.0.1 in
+    let high = g.1 h.0.0 h.0.1 in
+    let e : a ≡ b = omega (arith, ints, h.0.2, g.0.2) in
+    ap (λ (x : ℤ). Some x) e
+
 -- two walks that meet in a point of the set
 pub goes_joined : (inner : ℕ → Bool) (arcs : List Constraint) (k m j : ℕ) (v w : List Constraint) → inner k ≡ true → GoesOn inner arcs m k v → IsInner inner arcs k j w → GoesOn inner arcs m j (v ++ w)
 goes_joined inner arcs k m j [] [] here h g = absurd g
