@@ -17,8 +17,7 @@ use Rattle.elim_step.proofs.FinalWeights.{IsApart}
 use Rattle.private_elim.specs.Locals.{LocalView, IsLocal, point_at, private_at}
 use Rattle.private_elim.specs.ReducedViews.{entry_in, first_there}
 use Rattle.private_elim.specs.Sweeps.{IsSeenPlaces, HasGiven}
-use Rattle.private_elim.proofs.LocalFacts.{rises}
-use Rattle.private_elim.proofs.SweepParts.{rises_apart}
+use Rattle.private_elim.proofs.Takes.{local_ground}
 
 -- one entry more
 pub entry_in-push : (xs : List SummaryEntry) (e : SummaryEntry) (i j : ℕ) → entry_in (xs ++ e ∷ []) i j ≡ first_there (entry_in xs i j) (entry_in (e ∷ []) i j)
@@ -151,7 +150,7 @@ module _ (v : LocalView) (local : IsLocal v) (entries : List SummaryEntry) (vali
         ap (λ o. weight_at (lesser o cell)) free ∙ ap Some weighs ∙ sym now
 
     points_apart : IsApart v.points
-    points_apart = rises_apart v.points (rises v local)
+    points_apart = (local_ground v local).apart
 
     pub given_more : HasGiven v (take (n + 1) entries) after
     given_more = record {

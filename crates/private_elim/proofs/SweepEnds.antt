@@ -36,7 +36,8 @@ use Rattle.private_elim.proofs.Places.{place_found, place_contained}
 use Rattle.private_elim.proofs.Owned.{points_below}
 use Rattle.private_elim.proofs.LocalFacts.{place_of_point_at, arc_joins, arcs_of_net, private_of_net, seen_of_net}
 use Rattle.private_elim.proofs.Entries.{entry_light}
-use Rattle.private_elim.proofs.SweepParts.{private_place, order_private}
+use Rattle.private_elim.proofs.SweepParts.{order_private}
+use Rattle.private_elim.proofs.Takes.{private_at_is}
 
 module _ (v : LocalView) (order : List ℕ) (f : ℕ → ℕ → Option Cell) (joined : ℕ → ℕ → Bool) (remain : List Bool) (t : IsTaken v order f joined remain) where
   -- the ends of an edge of own arcs are points of the local problem
@@ -62,9 +63,9 @@ module _ (v : LocalView) (order : List ℕ) (f : ℕ → ℕ → Option Cell) (j
     in_order : (p : ℕ) → p < length v.points → is_in order (point_at v.points p) ≡ private_at v p
     in_order p lp =
         elim (private_at v p) as (λ b. private_at v p ≡ b → is_in order (point_at v.points p) ≡ b) [
-          | true ↦ λ h. sym (is_in-reverse order (point_at v.points p)) ∙ whole (point_at v.points p) (private_place v order f joined remain t p lp ∙ h)
+          | true ↦ λ h. sym (is_in-reverse order (point_at v.points p)) ∙ whole (point_at v.points p) (private_at_is v t.known p lp ∙ h)
           | false ↦ λ h. false_from_ne_true (is_in order (point_at v.points p))
-              (λ g. false≢true (sym h ∙ sym (private_place v order f joined remain t p lp) ∙ order_private v order f joined remain t (point_at v.points p) g))
+              (λ g. false≢true (sym h ∙ sym (private_at_is v t.known p lp) ∙ order_private v order f joined remain t (point_at v.points p) (is_in-reverse order (point_at v.points p) ∙ g)))
         ] refl
 
     -- before the first revisit
@@ -100,7 +101,7 @@ module _ (v : LocalView) (order : List ℕ) (f : ℕ → ℕ → Option Cell) (j
       all_private net e i j [] all = tt
       all_private net e i j (p ∷ ps) all =
           let here = before-in (reverse order) i j p (before_both-from_order order i j p all.0) in (
-            sym (private_of_net v net e p) ∙ order_private v order f joined remain t p (sym (is_in-reverse order p) ∙ here),
+            sym (private_of_net v net e p) ∙ order_private v order f joined remain t p here,
             all_private net e i j ps all.1,
           )
 
@@ -154,7 +155,7 @@ module _ (v : LocalView) (order : List ℕ) (f : ℕ → ℕ → Option Cell) (j
 
     private_points : (p q : ℕ) → p < length v.points → q < length v.points
         → (is_private_in v (point_at v.points p) || is_private_in v (point_at v.points q)) ≡ (private_at v p || private_at v q)
-    private_points p q lp lq = (λ i. private_place v order f joined remain t p lp i || private_place v order f joined remain t q lq i)
+    private_points p q lp lq = (λ i. private_at_is v t.known p lp i || private_at_is v t.known q lq i)
 
     -- only joined pairs of which one point is private have a bound
     some_weight : (x : Option Cell) → is_some (weight_at x) ≡ true → is_some x ≡ true
