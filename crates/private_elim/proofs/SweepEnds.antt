@@ -2,12 +2,11 @@
 --   joined_ends      joined points are points of the local problem
 --   swept_first      no private point is revisited
 --   swept_only, swept_least   all of them are
-use Rattle.std.proofs.Common.{zero, suc, ◌≡◌, ◌≢◌, ℕ, ◌+◌, ◌-◌, ◌*◌, ◌<◌, ◌≤◌, List, [], ◌∷◌, Bool, true, false, ◌||◌, not, Option, Some, None, length, take, reverse, refl, sym, ap, subst, ◌∙◌, arith, ◌⊎◌, inl, inr}
+use Rattle.std.proofs.Common.{◌≡◌, ◌≢◌, ℕ, ◌+◌, ◌-◌, ◌*◌, ◌<◌, ◌≤◌, List, [], ◌∷◌, Bool, true, false, ◌||◌, not, Option, Some, None, length, reverse, refl, sym, ap, subst, ◌∙◌, arith, inl, inr}
 use Rattle.std.specs.Prelude.{ℤ, is_some, IfSome, nat_abs, slice_index_or, if◌then◌else◌}
 use Rattle.std.specs.List.{AllByRecursion, Contains}
 use Rattle.std.proofs.lemmas.Bool.{false≢true, not-true, false_from_ne_true}
 use Rattle.std.proofs.lemmas.List.{take_all}
-use Rattle.stn_model.specs.declared.ids.Constraint.{Constraint}
 use Rattle.stn_model.specs.Net.{Net, arcs_of, point_count}
 use Rattle.stn_model.specs.Valid.{IsNetwork}
 use Rattle.stn_model.specs.ArcWalks.{IsInnerLeast}
@@ -15,7 +14,7 @@ use Rattle.stn_model.specs.Joined.{HasEdge, IsPath, ComesBefore, IsJoined}
 use Rattle.stn_model.specs.Schedules.{IsConsistent}
 use Rattle.stn_model.specs.Summaries.{IsSeenPair, is_seen}
 use Rattle.stn_model.specs.Kinds.{is_private_of}
-use Rattle.stn_walk.specs.Eliminations.{is_in, before_both}
+use Rattle.stn_walk.specs.Eliminations.{is_in}
 use Rattle.stn_walk.proofs.Exits.{every}
 use Rattle.stn_walk.proofs.Joins.{is_in-reverse, before_both-from_order}
 use Rattle.stn_walk.proofs.Distances.{bound_inner_least, inner_least_bound, network_bound_there, network_ends}
@@ -27,11 +26,11 @@ use Rattle.elim_step.specs.Eliminates.{remains}
 use Rattle.elim_step.specs.Eliminated.{weight_at}
 use Rattle.elim_step.proofs.Weights.{before-in}
 use Rattle.private_elim.specs.declared.back.PrivateBounds.{PrivateBounds}
-use Rattle.private_elim.specs.Locals.{LocalView, local_of, arcs_in, point_at, place_in, private_at, passes_at, is_private_in, is_seen_in}
+use Rattle.private_elim.specs.Locals.{LocalView, local_of, arcs_in, point_at, place_in, private_at, passes_at, is_private_in}
 use Rattle.private_elim.specs.Taken.{IsTaken}
 use Rattle.private_elim.specs.ReducedViews.{entry_in}
 use Rattle.private_elim.specs.Backs.{bound_at, bound_between, IsPrivatePair, HoldsFinals, IsLeastIn}
-use Rattle.private_elim.specs.Sweeps.{IsSeenPlaces, HasGiven, IsSwept}
+use Rattle.private_elim.specs.Sweeps.{HasGiven, IsSwept}
 use Rattle.private_elim.proofs.Places.{place_found, place_contained}
 use Rattle.private_elim.proofs.Owned.{points_below}
 use Rattle.private_elim.proofs.LocalFacts.{place_of_point_at, arc_joins, arcs_of_net, private_of_net, seen_of_net}

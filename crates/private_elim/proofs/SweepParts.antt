@@ -2,12 +2,10 @@
 --   reverse-cut                 an order turned round, cut at one of its points
 --   joined_in_order, order_joins   joined places are joined in the order
 --   rows_light                  weights of the rows have magnitude at most 2^52
---   cell_out, cell_back, join_out, join_back   cells and joins with the point
-use Rattle.std.proofs.Common.{zero, suc, ◌≡◌, ◌≢◌, ℕ, ◌+◌, ◌*◌, ◌<◌, ◌≤◌, List, [], ◌∷◌, ◌++◌, Bool, true, false, ◌||◌, not, Option, Some, None, length, take, drop, reverse, get_or, refl, sym, ap, subst, ◌∙◌, arith, ⊎_elim}
+--   cell_out, cell_back, join_out, cells_apart   cells and joins with the point
+use Rattle.std.proofs.Common.{◌≡◌, ◌≢◌, ℕ, ◌+◌, ◌<◌, ◌≤◌, List, [], ◌∷◌, ◌++◌, Bool, true, false, ◌||◌, Option, Some, None, length, take, drop, reverse, refl, sym, ap, subst, ◌∙◌}
 use Rattle.std.specs.Prelude.{ℤ, ◌==◌, is_some, IfSome, nat_abs}
-use Rattle.std.specs.List.{AllByRecursion, Contains}
-use Rattle.std.proofs.Math.Bool.{or-false}
-use Rattle.std.proofs.lemmas.Bool.{cases_lt, false≢true, eqb-true}
+use Rattle.std.proofs.lemmas.Bool.{false≢true}
 use Rattle.std.proofs.lemmas.List.{take_more, take-append-drop, reverse-append}
 use Rattle.stn_model.specs.declared.ids.Constraint.{Constraint}
 use Rattle.stn_model.specs.ArcWalks.{NoNegative, IsInnerLeast}
@@ -19,13 +17,10 @@ use Rattle.stn_walk.proofs.Eliminations.{cell-least}
 use Rattle.stn_walk.proofs.Joins.{is_in-reverse, joined-symmetric, joined-from_walk, joined-from_order, order-from_joined}
 use Rattle.dist_rows.specs.declared.cell.Cell.{Cell}
 use Rattle.elim_step.specs.Eliminated.{weight_at, forward_of}
-use Rattle.elim_step.proofs.Weights.{before-in}
 use Rattle.elim_step.proofs.Sound.{inner_in}
 use Rattle.elim_step.proofs.FinalWeights.{IsApart}
-use Rattle.private_elim.specs.Locals.{LocalView, arcs_in, point_at, private_at, place_in, passes_at, is_private_in}
+use Rattle.private_elim.specs.Locals.{LocalView, arcs_in, point_at, is_private_in}
 use Rattle.private_elim.specs.Taken.{IsTaken}
-use Rattle.private_elim.proofs.Places.{Rises, place_found, place_contained}
-use Rattle.private_elim.proofs.LocalFacts.{rises, place_of_point_at, points_small, arc_joins}
 use Rattle.private_elim.proofs.TakenFacts.{taken_private, forward_light}
 use Rattle.private_elim.proofs.Takes.{local_ground, facts}
 use Rattle.private_elim.proofs.Orders.{in-first, in-behind, before-at, before-turned, different-reverse, different-behind}

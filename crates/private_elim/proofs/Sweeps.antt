@@ -3,17 +3,16 @@
 --   sum_light        a sum of two light weights
 --   some_later, not_later, no_cells, finals_light   what a revisit asks
 --   swept_more       what it gives
-use Rattle.std.proofs.Common.{suc, ◌≡◌, ◌≢◌, ℕ, ◌+◌, ◌-◌, ◌*◌, ◌^◌, ◌<◌, ◌≤◌, List, [], ◌∷◌, ◌++◌, Bool, true, false, ◌&&◌, ◌||◌, not, Option, Some, None, length, take, drop, set, reverse, refl, sym, ap, subst, ◌∙◌, arith, inl, length-set, get_or-set_same, get_or-set_other}
-use Rattle.std.specs.Prelude.{ℤ, pos, ◌==◌, is_some, IfSome, nat_abs, if◌then◌else◌}
+use Rattle.std.proofs.Common.{◌≡◌, ◌≢◌, ℕ, ◌+◌, ◌-◌, ◌*◌, ◌<◌, ◌≤◌, List, [], ◌∷◌, Bool, true, false, ◌&&◌, ◌||◌, not, Option, Some, None, length, take, drop, set, reverse, refl, sym, ap, subst, ◌∙◌, arith, inl, length-set, get_or-set_same, get_or-set_other}
+use Rattle.std.specs.Prelude.{pos, ◌==◌, is_some, IfSome, nat_abs, if◌then◌else◌}
 use Rattle.std.proofs.lemmas.Bool.{false≢true, eqb-true, eqb-false, eq-eqb, and_parts, and_from, or_right, not-true, false_from_ne_true}
 use Rattle.std.proofs.lemmas.Int.{ints}
-use Rattle.stn_model.specs.declared.ids.Constraint.{Constraint}
 use Rattle.stn_model.specs.Net.{Net, arcs_of, point_count}
 use Rattle.stn_model.specs.Valid.{IsNetwork}
-use Rattle.stn_model.specs.ArcWalks.{IsInner, IsInnerLeast}
+use Rattle.stn_model.specs.ArcWalks.{IsInnerLeast}
 use Rattle.stn_model.specs.Joined.{IsJoined}
 use Rattle.stn_model.proofs.ArcLemmas.{lower_arc}
-use Rattle.stn_walk.specs.Eliminations.{is_in, cell_of, before_both}
+use Rattle.stn_walk.specs.Eliminations.{is_in, before_both}
 use Rattle.stn_walk.specs.Joins.{joined_of}
 use Rattle.stn_walk.proofs.Eliminations.{cell-least}
 use Rattle.stn_walk.proofs.Joins.{is_in-reverse, joined-symmetric, joined-wider, test-from_edge}
@@ -27,13 +26,13 @@ use Rattle.elim_step.specs.declared.summary.SummaryEntry.{SummaryEntry}
 use Rattle.elim_step.specs.Eliminates.{remains, sum_through}
 use Rattle.elim_step.specs.Eliminated.{weight_at}
 use Rattle.elim_step.specs.Revisits.{reach_of, out_sum, in_sum, IsLeastSum, Revisits}
-use Rattle.elim_step.proofs.FinalWeights.{IsStrange, Prepared, finals_are_least}
+use Rattle.elim_step.proofs.FinalWeights.{Prepared, finals_are_least}
 use Rattle.private_elim.specs.Locals.{LocalView, local_of, arcs_in, point_at, private_at, is_private_in}
 use Rattle.private_elim.specs.Taken.{IsTaken}
 use Rattle.private_elim.specs.Backs.{HoldsFinals}
 use Rattle.private_elim.specs.Sweeps.{IsSwept}
 use Rattle.private_elim.proofs.Places.{place_nowhere}
-use Rattle.private_elim.proofs.LocalFacts.{arc_joins, some_point, z_first, lower_contained}
+use Rattle.private_elim.proofs.LocalFacts.{some_point, z_first, lower_contained}
 use Rattle.private_elim.proofs.TakenFacts.{none_from_strange, none_to_strange}
 use Rattle.private_elim.proofs.Takes.{private_at_is, facts}
 use Rattle.private_elim.proofs.Choices.{few_taken}
