@@ -3,9 +3,9 @@
 --   entry_light       the weights have magnitude at most 2^53
 --   valid_at, entry_fresh  each entry is valid, and none before it has its points
 --   given_same, given_more   the cells of the first entries between places that are not private
-use Rattle.std.proofs.Common.{zero, suc, ◌≡◌, ◌≢◌, ℕ, ◌+◌, ◌<◌, ◌≤◌, List, [], ◌∷◌, ◌++◌, Bool, true, false, ◌&&◌, ◌||◌, not, Option, Some, None, length, take, get_or, refl, sym, ap, subst, ◌∙◌, arith}
+use Rattle.std.proofs.Common.{zero, suc, ◌≡◌, ◌≢◌, ℕ, ◌+◌, ◌<◌, ◌≤◌, List, [], ◌∷◌, ◌++◌, true, false, ◌&&◌, ◌||◌, not, Option, Some, None, length, take, get_or, refl, sym, ap, subst, ◌∙◌, arith}
 use Rattle.std.specs.Prelude.{ℤ, ◌==◌, nat_lt, nat_le, nat_abs, is_some, IfSome, if◌then◌else◌}
-use Rattle.std.proofs.lemmas.Bool.{false≢true, eqb-true, eqb-false, eq-eqb, and_parts}
+use Rattle.std.proofs.lemmas.Bool.{false≢true, eqb-true, eq-eqb, and_parts}
 use Rattle.std.proofs.lemmas.Bool.Decides.{nat_tests}
 use Rattle.std.proofs.lemmas.List.{take_more}
 use Rattle.dist_rows.specs.declared.cell.Cell.{Cell}
@@ -14,11 +14,10 @@ use Rattle.elim_step.specs.declared.summary.SummaryEntry.{SummaryEntry}
 use Rattle.elim_step.specs.Summaries.{is_valid, is_less, may_follow, may_all_follow, is_summary}
 use Rattle.elim_step.specs.Eliminated.{weight_at}
 use Rattle.elim_step.proofs.FinalWeights.{IsApart}
-use Rattle.private_elim.specs.Locals.{LocalView, IsLocal, point_at, private_at}
+use Rattle.private_elim.specs.Locals.{LocalView, IsLocal, point_at}
 use Rattle.private_elim.specs.ReducedViews.{entry_in, first_there}
 use Rattle.private_elim.specs.Sweeps.{IsSeenPlaces, HasGiven}
-use Rattle.private_elim.proofs.LocalFacts.{rises}
-use Rattle.private_elim.proofs.SweepParts.{rises_apart}
+use Rattle.private_elim.proofs.Takes.{local_ground}
 
 -- one entry more
 pub entry_in-push : (xs : List SummaryEntry) (e : SummaryEntry) (i j : ℕ) → entry_in (xs ++ e ∷ []) i j ≡ first_there (entry_in xs i j) (entry_in (e ∷ []) i j)
@@ -151,7 +150,7 @@ module _ (v : LocalView) (local : IsLocal v) (entries : List SummaryEntry) (vali
         ap (λ o. weight_at (lesser o cell)) free ∙ ap Some weighs ∙ sym now
 
     points_apart : IsApart v.points
-    points_apart = rises_apart v.points (rises v local)
+    points_apart = (local_ground v local).apart
 
     pub given_more : HasGiven v (take (n + 1) entries) after
     given_more = record {

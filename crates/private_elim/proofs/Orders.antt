@@ -5,14 +5,15 @@
 --   before-turned        the order of the two does not matter
 --   different-reverse    no number stands twice in a list turned round
 --   different-behind     what stands at the cut does not follow it
-use Rattle.std.proofs.Common.{suc, ◌≡◌, ◌≢◌, ℕ, ◌-◌, ◌<◌, List, [], ◌∷◌, ◌++◌, Bool, true, false, ◌||◌, length, get_or, reverse, refl, sym, ap, ◌∙◌, arith}
+use Rattle.std.proofs.Common.{◌≡◌, ◌≢◌, ℕ, ◌-◌, List, [], ◌∷◌, ◌++◌, true, false, ◌||◌, length, reverse, refl, sym, ap, ◌∙◌, arith}
 use Rattle.std.specs.Prelude.{◌==◌, if◌then◌else◌}
 use Rattle.std.specs.List.{AllByRecursion}
 use Rattle.std.proofs.Math.Bool.{or-true, or-false, or_comm}
-use Rattle.std.proofs.lemmas.Bool.{false≢true, eq-eqb, ne_eqb}
+use Rattle.std.proofs.lemmas.Bool.{eq-eqb, ne_eqb}
 use Rattle.std.proofs.lemmas.List.{length-reverse, get_or-reverse}
 use Rattle.stn_model.specs.Walks.{AllDifferent}
 use Rattle.stn_walk.specs.Eliminations.{is_in, before_both}
+use Rattle.stn_walk.proofs.Eliminations.{before-whole}
 use Rattle.stn_walk.proofs.Different.{AllDifferent-from_index, different_at}
 
 -- the first of a list is in it

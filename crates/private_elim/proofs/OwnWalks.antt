@@ -2,23 +2,22 @@
 --   own_from_private, own_to_private   an arc of the network that begins or ends at a private point of an agent is its own
 --   from_private, to_private           so is each arc of such a walk
 --   least_from_private, least_to_private  so their least weights over own arcs are those over all arcs
---   starts_at, ends_at                 the first and the last arc of a walk
-use Rattle.std.proofs.Common.{◌≡◌, ◌≢◌, ℕ, ◌<◌, Bool, true, false, ◌&&◌, ◌||◌, not, List, [], ◌∷◌, length, get_or, nat_eq, Option, Some, None, refl, sym, ap, subst, ◌∙◌, arith, ◌⊎◌, inl, inr}
+use Rattle.std.proofs.Common.{◌≡◌, ◌≢◌, ℕ, Bool, true, false, ◌&&◌, ◌||◌, not, List, [], ◌∷◌, nat_eq, Option, Some, None, refl, sym, ap, subst, ◌∙◌, arith, ◌⊎◌, inl, inr}
 use Rattle.std.specs.Prelude.{ℤ}
-use Rattle.std.specs.List.{All, Contains, list_any, filter}
+use Rattle.std.specs.List.{Contains}
 use Rattle.std.specs.Option.{option_eq}
 use Rattle.std.proofs.lemmas.List.{get_or_default}
 use Rattle.std.proofs.lemmas.List.Elements.{All-filter, All-contains, All-contains_itself}
 use Rattle.std.proofs.lemmas.List.Folds.{list_any_at}
 use Rattle.std.proofs.Math.Bool.{or-true}
-use Rattle.std.proofs.lemmas.Bool.{not-true, and_parts, cases_eq, false≢true, ne_eqb, eq-eqb}
+use Rattle.std.proofs.lemmas.Bool.{not-true, and_parts, false≢true, ne_eqb, eq-eqb}
 use Rattle.std.proofs.lemmas.Bool.Decides.{nat_tests}
 use Rattle.stn_model.specs.declared.ids.Constraint.{Constraint}
 use Rattle.stn_model.specs.Arcs.{arc_at, no_arc}
 use Rattle.stn_model.specs.Net.{Net, arcs_of, owner_of}
 use Rattle.stn_model.specs.Kinds.{same_owner, is_external, names_point, is_shared, is_owned_by, is_own, is_private_of}
 use Rattle.stn_model.specs.Conflicts.{own_arcs}
-use Rattle.stn_model.specs.ArcWalks.{GoesOn, IsInner, IsInnerLeast, arcs_weight}
+use Rattle.stn_model.specs.ArcWalks.{GoesOn, IsInner, IsInnerLeast}
 use Rattle.private_elim.specs.Locals.{LocalView, local_of, arcs_in, is_private_in}
 use Rattle.private_elim.proofs.Owned.{owned_in}
 use Rattle.private_elim.proofs.OwnArcs.{numbered_arc}
@@ -33,18 +32,6 @@ inner_more inner arcs more i j (a ∷ w) up h = (up a h.0, h.1, goes a.to.0 w h.
   goes : (m : ℕ) (w : List Constraint) → GoesOn inner arcs m j w → GoesOn inner more m j w
   goes m [] g = g
   goes m (b ∷ w) g = (g.0, up b g.1, g.2, goes b.to.0 w g.3)
-
--- the first arc of a walk begins where it does, and the last arc ends where it does
-pub starts_at : (inner : ℕ → Bool) (arcs : List Constraint) (i j : ℕ) (w : List Constraint) → IsInner inner arcs i j w → (a : Constraint) × Contains arcs a × (a.from.0 ≡ i)
-starts_at inner arcs i j [] h = absurd h
-starts_at inner arcs i j (a ∷ w) h = (a, h.0, h.1)
-
-pub ends_at : (inner : ℕ → Bool) (arcs : List Constraint) (i j : ℕ) (w : List Constraint) → IsInner inner arcs i j w → (a : Constraint) × Contains arcs a × (a.to.0 ≡ j)
-ends_at inner arcs i j [] h = absurd h
-ends_at inner arcs i j (a ∷ w) h = last a w h.0 h.2 where
-  last : (a : Constraint) (w : List Constraint) → Contains arcs a → GoesOn inner arcs a.to.0 j w → (b : Constraint) × Contains arcs b × (b.to.0 ≡ j)
-  last a [] here g = (a, here, g)
-  last a (b ∷ w) here g = last b w g.1 g.3
 
 -- two owners are the same where one is the agent's and the test says so
 same_agent : (x y : Option ℕ) (agent : ℕ) → option_eq nat_eq x y ≡ true → option_eq nat_eq x (Some agent) ≡ true → option_eq nat_eq y (Some agent) ≡ true

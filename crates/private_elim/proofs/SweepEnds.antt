@@ -2,12 +2,11 @@
 --   joined_ends      joined points are points of the local problem
 --   swept_first      no private point is revisited
 --   swept_only, swept_least   all of them are
-use Rattle.std.proofs.Common.{zero, suc, ◌≡◌, ◌≢◌, ℕ, ◌+◌, ◌-◌, ◌*◌, ◌<◌, ◌≤◌, List, [], ◌∷◌, Bool, true, false, ◌||◌, not, Option, Some, None, length, take, reverse, refl, sym, ap, subst, ◌∙◌, arith, ◌⊎◌, inl, inr}
+use Rattle.std.proofs.Common.{◌≡◌, ◌≢◌, ℕ, ◌+◌, ◌-◌, ◌*◌, ◌<◌, ◌≤◌, List, [], ◌∷◌, Bool, true, false, ◌||◌, not, Option, Some, None, length, reverse, refl, sym, ap, subst, ◌∙◌, arith, inl, inr}
 use Rattle.std.specs.Prelude.{ℤ, is_some, IfSome, nat_abs, slice_index_or, if◌then◌else◌}
 use Rattle.std.specs.List.{AllByRecursion, Contains}
 use Rattle.std.proofs.lemmas.Bool.{false≢true, not-true, false_from_ne_true}
 use Rattle.std.proofs.lemmas.List.{take_all}
-use Rattle.stn_model.specs.declared.ids.Constraint.{Constraint}
 use Rattle.stn_model.specs.Net.{Net, arcs_of, point_count}
 use Rattle.stn_model.specs.Valid.{IsNetwork}
 use Rattle.stn_model.specs.ArcWalks.{IsInnerLeast}
@@ -15,7 +14,7 @@ use Rattle.stn_model.specs.Joined.{HasEdge, IsPath, ComesBefore, IsJoined}
 use Rattle.stn_model.specs.Schedules.{IsConsistent}
 use Rattle.stn_model.specs.Summaries.{IsSeenPair, is_seen}
 use Rattle.stn_model.specs.Kinds.{is_private_of}
-use Rattle.stn_walk.specs.Eliminations.{is_in, before_both}
+use Rattle.stn_walk.specs.Eliminations.{is_in}
 use Rattle.stn_walk.proofs.Exits.{every}
 use Rattle.stn_walk.proofs.Joins.{is_in-reverse, before_both-from_order}
 use Rattle.stn_walk.proofs.Distances.{bound_inner_least, inner_least_bound, network_bound_there, network_ends}
@@ -27,16 +26,17 @@ use Rattle.elim_step.specs.Summaries.{is_summary}
 use Rattle.elim_step.specs.Eliminates.{remains}
 use Rattle.elim_step.specs.Eliminated.{weight_at}
 use Rattle.private_elim.specs.declared.back.PrivateBounds.{PrivateBounds}
-use Rattle.private_elim.specs.Locals.{LocalView, local_of, arcs_in, point_at, place_in, private_at, passes_at, is_private_in, is_seen_in}
+use Rattle.private_elim.specs.Locals.{LocalView, local_of, arcs_in, point_at, place_in, private_at, passes_at, is_private_in}
 use Rattle.private_elim.specs.Taken.{IsTaken}
 use Rattle.private_elim.specs.ReducedViews.{entry_in}
 use Rattle.private_elim.specs.Backs.{bound_at, bound_between, IsPrivatePair, HoldsFinals, IsLeastIn}
-use Rattle.private_elim.specs.Sweeps.{IsSeenPlaces, HasGiven, IsSwept}
+use Rattle.private_elim.specs.Sweeps.{HasGiven, IsSwept}
 use Rattle.private_elim.proofs.Places.{place_found, place_contained}
 use Rattle.private_elim.proofs.Owned.{points_below}
 use Rattle.private_elim.proofs.LocalFacts.{place_of_point_at, arc_joins, arcs_of_net, private_of_net, seen_of_net}
 use Rattle.private_elim.proofs.Entries.{entry_light}
-use Rattle.private_elim.proofs.SweepParts.{private_place, order_private}
+use Rattle.private_elim.proofs.SweepParts.{order_private}
+use Rattle.private_elim.proofs.Takes.{private_at_is}
 
 module _ (v : LocalView) (order : List ℕ) (f : ℕ → ℕ → Option Cell) (joined : ℕ → ℕ → Bool) (remain : List Bool) (t : IsTaken v order f joined remain) where
   -- the ends of an edge of own arcs are points of the local problem
@@ -62,9 +62,9 @@ module _ (v : LocalView) (order : List ℕ) (f : ℕ → ℕ → Option Cell) (j
     in_order : (p : ℕ) → p < length v.points → is_in order (point_at v.points p) ≡ private_at v p
     in_order p lp =
         elim (private_at v p) as (λ b. private_at v p ≡ b → is_in order (point_at v.points p) ≡ b) [
-          | true ↦ λ h. sym (is_in-reverse order (point_at v.points p)) ∙ whole (point_at v.points p) (private_place v order f joined remain t p lp ∙ h)
+          | true ↦ λ h. sym (is_in-reverse order (point_at v.points p)) ∙ whole (point_at v.points p) (private_at_is v t.known p lp ∙ h)
           | false ↦ λ h. false_from_ne_true (is_in order (point_at v.points p))
-              (λ g. false≢true (sym h ∙ sym (private_place v order f joined remain t p lp) ∙ order_private v order f joined remain t (point_at v.points p) g))
+              (λ g. false≢true (sym h ∙ sym (private_at_is v t.known p lp) ∙ order_private v order f joined remain t (point_at v.points p) (is_in-reverse order (point_at v.points p) ∙ g)))
         ] refl
 
     -- before the first revisit
@@ -100,7 +100,7 @@ module _ (v : LocalView) (order : List ℕ) (f : ℕ → ℕ → Option Cell) (j
       all_private net e i j [] all = tt
       all_private net e i j (p ∷ ps) all =
           let here = before-in (reverse order) i j p (before_both-from_order order i j p all.0) in (
-            sym (private_of_net v net e p) ∙ order_private v order f joined remain t p (sym (is_in-reverse order p) ∙ here),
+            sym (private_of_net v net e p) ∙ order_private v order f joined remain t p here,
             all_private net e i j ps all.1,
           )
 
@@ -154,7 +154,7 @@ module _ (v : LocalView) (order : List ℕ) (f : ℕ → ℕ → Option Cell) (j
 
     private_points : (p q : ℕ) → p < length v.points → q < length v.points
         → (is_private_in v (point_at v.points p) || is_private_in v (point_at v.points q)) ≡ (private_at v p || private_at v q)
-    private_points p q lp lq = (λ i. private_place v order f joined remain t p lp i || private_place v order f joined remain t q lq i)
+    private_points p q lp lq = (λ i. private_at_is v t.known p lp i || private_at_is v t.known q lq i)
 
     -- only joined pairs of which one point is private have a bound
     some_weight : (x : Option Cell) → is_some (weight_at x) ≡ true → is_some x ≡ true

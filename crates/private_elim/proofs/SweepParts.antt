@@ -1,14 +1,11 @@
 -- What cells and joined places come to at a private point of the order, when the points before it are the ones left: facts for its revisit.
---   rises_apart, in_all         places are told apart by their points; what holds of a list holds of what is in it
 --   reverse-cut                 an order turned round, cut at one of its points
 --   joined_in_order, order_joins   joined places are joined in the order
 --   rows_light                  weights of the rows have magnitude at most 2^52
---   cell_out, cell_back, join_out, join_back   cells and joins with the point
-use Rattle.std.proofs.Common.{zero, suc, ◌≡◌, ◌≢◌, ℕ, ◌+◌, ◌*◌, ◌<◌, ◌≤◌, List, [], ◌∷◌, ◌++◌, Bool, true, false, ◌||◌, not, Option, Some, None, length, take, drop, reverse, get_or, refl, sym, ap, subst, ◌∙◌, arith, ⊎_elim}
+--   cell_out, cell_back, join_out, cells_apart   cells and joins with the point
+use Rattle.std.proofs.Common.{◌≡◌, ◌≢◌, ℕ, ◌+◌, ◌<◌, ◌≤◌, List, [], ◌∷◌, ◌++◌, Bool, true, false, ◌||◌, Option, Some, None, length, take, drop, reverse, refl, sym, ap, subst, ◌∙◌}
 use Rattle.std.specs.Prelude.{ℤ, ◌==◌, is_some, IfSome, nat_abs}
-use Rattle.std.specs.List.{AllByRecursion, Contains}
-use Rattle.std.proofs.Math.Bool.{or-false}
-use Rattle.std.proofs.lemmas.Bool.{cases_lt, false≢true, eqb-true}
+use Rattle.std.proofs.lemmas.Bool.{false≢true}
 use Rattle.std.proofs.lemmas.List.{take_more, take-append-drop, reverse-append}
 use Rattle.stn_model.specs.declared.ids.Constraint.{Constraint}
 use Rattle.stn_model.specs.ArcWalks.{NoNegative, IsInnerLeast}
@@ -18,37 +15,15 @@ use Rattle.stn_walk.specs.Eliminations.{is_in, before_both, cell_of}
 use Rattle.stn_walk.specs.Joins.{joined_of}
 use Rattle.stn_walk.proofs.Eliminations.{cell-least, before-in}
 use Rattle.stn_walk.proofs.Joins.{is_in-reverse, joined-symmetric, joined-from_walk, joined-from_order, order-from_joined}
-use Rattle.stn_walk.proofs.Different.{few_different}
-use Rattle.stn_walk.proofs.LightWalks.{IsBelow, HasBounds, least_light}
 use Rattle.stn_walk.proofs.Visits.{inner_in}
 use Rattle.dist_rows.specs.declared.cell.Cell.{Cell}
 use Rattle.elim_step.specs.Eliminated.{weight_at, forward_of}
 use Rattle.elim_step.proofs.FinalWeights.{IsApart}
-use Rattle.private_elim.specs.Locals.{LocalView, arcs_in, point_at, private_at, place_in, passes_at, is_private_in}
+use Rattle.private_elim.specs.Locals.{LocalView, arcs_in, point_at, is_private_in}
 use Rattle.private_elim.specs.Taken.{IsTaken}
-use Rattle.private_elim.proofs.Places.{Rises, place_found, place_contained}
-use Rattle.private_elim.proofs.LocalFacts.{rises, place_of_point_at, points_small, arc_joins}
+use Rattle.private_elim.proofs.TakenFacts.{taken_private, forward_light}
+use Rattle.private_elim.proofs.Takes.{local_ground, facts}
 use Rattle.private_elim.proofs.Orders.{in-first, in-behind, before-at, before-turned, different-reverse, different-behind}
-
--- places are told apart by their points
-pub rises_apart : (xs : List ℕ) → Rises xs → IsApart xs
-rises_apart xs rise i j li lj same =
-    ⊎_elim
-    (λ (less : i < j). let below = rise i j less lj in absurd (omega arith))
-    (λ (more : j ≤ i). ⊎_elim
-    (λ (greater : j < i). let above = rise j i greater li in absurd (omega arith))
-    (λ (equal : i ≤ j). omega arith)
-    (cases_lt j i))
-    (cases_lt i j)
-
--- what holds of each item holds of what is in the list
-pub in_all : (P : ℕ → Type 0) (xs : List ℕ) → AllByRecursion P xs → (p : ℕ) → is_in xs p ≡ true → P p
-in_all P [] all p here = absurd (false≢true here)
-in_all P (x ∷ xs) all p here =
-    elim (p == x) as (λ b. (p == x) ≡ b → (is_in xs p || b) ≡ true → P p) [
-      | true ↦ λ t h. subst P (sym (eqb-true p x t)) all.0
-      | false ↦ λ t h. in_all P xs all.1 p (sym (or-false (is_in xs p)) ∙ h)
-    ] refl here
 
 -- a front of an order, one point longer, turned round
 pub reverse-front : (xs : List ℕ) (n : ℕ) → n < length xs → reverse (take (n + 1) xs) ≡ point_at xs n ∷ reverse (take n xs)
@@ -69,29 +44,11 @@ cell-apart arcs es none_below i j away = none (cell_of arcs es i j) (cell-least 
 module _ (v : LocalView) (order : List ℕ) (f : ℕ → ℕ → Option Cell) (joined : ℕ → ℕ → Bool) (remain : List Bool) (t : IsTaken v order f joined remain) where
   -- places are told apart by their points
   pub points_apart : IsApart v.points
-  points_apart = rises_apart v.points (rises v t.known)
-
-  -- the point at a private place is private
-  pub private_place : (k : ℕ) → k < length v.points → is_private_in v (point_at v.points k) ≡ private_at v k
-  private_place k lt = ap (passes_at (private_at v)) (place_of_point_at v t.known k lt)
+  points_apart = (local_ground v t.known).apart
 
   -- the points of the order are private
-  pub order_private : (p : ℕ) → is_in order p ≡ true → is_private_in v p ≡ true
-  order_private = in_all (λ p. is_private_in v p ≡ true) order t.private
-
-  -- there are at most 4096
-  pub few_order : length order ≤ 4096
-  few_order = few_different 4096 order t.once (small order t.private) where
-    small : (ps : List ℕ) → AllByRecursion (λ p. is_private_in v p ≡ true) ps → AllByRecursion (λ p. p < 4096) ps
-    small [] h = tt
-    small (p ∷ ps) h = (point_small p (place_in v.points p) refl h.0, small ps h.1) where
-      point_small : (p : ℕ) (o : Option ℕ) → place_in v.points p ≡ o → passes_at (private_at v) o ≡ true → p < 4096
-      point_small p None e private = absurd (false≢true private)
-      point_small p (Some k) e private =
-          let found = place_found v.points p k e in
-          let low = points_small v t.known k 0 found.0 in
-          let is = found.1 in
-          omega arith
+  pub order_private : (p : ℕ) → is_in (reverse order) p ≡ true → is_private_in v p ≡ true
+  order_private = taken_private (record { local = v; order = order }) (facts v order f joined remain t)
 
   -- joined places are joined in the order, and the other way round
   pub joined_in_order : (i j : ℕ) → i < length v.points → j < length v.points → i ≢ j → joined i j ≡ true
@@ -119,29 +76,16 @@ module _ (v : LocalView) (order : List ℕ) (f : ℕ → ℕ → Option Cell) (j
   pub none_among : (es : List ℕ) → ((p : ℕ) → is_in es p ≡ true → is_in (reverse order) p ≡ true) → NoNegative (is_in es) (arcs_in v)
   none_among es up p w h = t.cells.none_below p w (inner_in (is_in es) (is_in (reverse order)) (arcs_in v) p p w up h)
 
-  -- arcs begin at points below 4096, and their bounds have magnitude at most 2^40
-  own_below : IsBelow 4096 (arcs_in v)
-  unfolding IsBelow
-  own_below = λ a here.
-      let there = place_contained v.points a.from.0 (arc_joins v t.known a here).starts in
-      let low = points_small v t.known there.0 0 there.1 in
-      let is = there.2 in
-      omega arith
-
-  own_bounds : HasBounds 1099511627776 (arcs_in v)
-  unfolding HasBounds
-  own_bounds = λ a here. let joins = arc_joins v t.known a here in (joins.low, joins.high)
-
-  light_of : (x : Option Cell) (y : Option ℤ) → weight_at x ≡ y → IfSome y (λ w. nat_abs w ≤ 4096 * 1099511627776) → IfSome x (λ c. nat_abs c.weight ≤ 4503599627370496)
+  light_of : (x : Option Cell) (y : Option ℤ) → weight_at x ≡ y → IfSome y (λ w. nat_abs w ≤ 4503599627370496) → IfSome x (λ c. nat_abs c.weight ≤ 4503599627370496)
   light_of None y e g = tt
   light_of (Some c) None e g = absurd (cc)
-  light_of (Some c) (Some w) e g = let same : c.weight ≡ w = cc in rw same (omega arith)
+  light_of (Some c) (Some w) e g = let same : c.weight ≡ w = cc in rw same g
 
   none_light : (x : Option Cell) → is_some x ≡ false → IfSome x (λ c. nat_abs c.weight ≤ 4503599627370496)
   none_light None g = tt
   none_light (Some c) g = absurd (cc)
 
-  -- so the weights of the rows have magnitude at most 2^52
+  -- the weights of the rows have magnitude at most 2^52
   pub rows_light : ((p q : ℕ) → is_some (f p q) ≡ true → (p < length v.points) × (q < length v.points) × (p ≢ q))
       → (p q : ℕ) → IfSome (f p q) (λ c. nat_abs c.weight ≤ 4503599627370496)
   rows_light room p q =
@@ -150,10 +94,8 @@ module _ (v : LocalView) (order : List ℕ) (f : ℕ → ℕ → Option Cell) (j
             let r = room p q there in
             let x = point_at v.points p in
             let y = point_at v.points q in
-            let es = before_both (reverse order) x y in
-            let none_below = none_among es (before-in (reverse order) x y) in
-            light_of (f p q) (cell_of (arcs_in v) es x y) (t.cells.cells p q r.0 r.1 r.2)
-            (least_light (is_in es) (arcs_in v) 4096 1099511627776 x y (cell_of (arcs_in v) es x y) own_below own_bounds none_below (cell-least (arcs_in v) es none_below x y))
+            light_of (f p q) (forward_of (arcs_in v) (reverse order) x y) (t.cells.cells p q r.0 r.1 r.2)
+            (forward_light (record { local = v; order = order }) (facts v order f joined remain t) x y)
         | false ↦ λ there. none_light (f p q) there
       ] refl
 
@@ -179,7 +121,7 @@ module _ (v : LocalView) (order : List ℕ) (f : ℕ → ℕ → Option Cell) (j
     behind_in_order p h = ap (λ xs. is_in xs p) cut ∙ in-behind (reverse (drop (n + 1) order)) (point_at v.points k ∷ left) p h
 
     behind_private : (p : ℕ) → is_in (point_at v.points k ∷ left) p ≡ true → is_private_in v p ≡ true
-    behind_private p h = order_private p (sym (is_in-reverse order p) ∙ behind_in_order p h)
+    behind_private p h = order_private p (behind_in_order p h)
 
     left_in : (p : ℕ) → is_in left p ≡ true → is_in (point_at v.points k ∷ left) p ≡ true
     left_in p h = ap (λ b. b || (p == point_at v.points k)) h

@@ -3,17 +3,16 @@
 --   sum_light        a sum of two light weights
 --   some_later, not_later, no_cells, finals_light   what a revisit asks
 --   swept_more       what it gives
-use Rattle.std.proofs.Common.{suc, ◌≡◌, ◌≢◌, ℕ, ◌+◌, ◌-◌, ◌*◌, ◌^◌, ◌<◌, ◌≤◌, List, [], ◌∷◌, ◌++◌, Bool, true, false, ◌&&◌, ◌||◌, not, Option, Some, None, length, take, drop, set, reverse, refl, sym, ap, subst, ◌∙◌, arith, inl, length-set, get_or-set_same, get_or-set_other}
-use Rattle.std.specs.Prelude.{ℤ, pos, ◌==◌, is_some, IfSome, nat_abs, if◌then◌else◌}
+use Rattle.std.proofs.Common.{◌≡◌, ◌≢◌, ℕ, ◌+◌, ◌-◌, ◌*◌, ◌<◌, ◌≤◌, List, [], ◌∷◌, Bool, true, false, ◌&&◌, ◌||◌, not, Option, Some, None, length, take, drop, set, reverse, refl, sym, ap, subst, ◌∙◌, arith, inl, length-set, get_or-set_same, get_or-set_other}
+use Rattle.std.specs.Prelude.{pos, ◌==◌, is_some, IfSome, nat_abs, if◌then◌else◌}
 use Rattle.std.proofs.lemmas.Bool.{false≢true, eqb-true, eqb-false, eq-eqb, and_parts, and_from, or_right, not-true, false_from_ne_true}
 use Rattle.std.proofs.lemmas.Int.{ints}
-use Rattle.stn_model.specs.declared.ids.Constraint.{Constraint}
 use Rattle.stn_model.specs.Net.{Net, arcs_of, point_count}
 use Rattle.stn_model.specs.Valid.{IsNetwork}
-use Rattle.stn_model.specs.ArcWalks.{IsInner, IsInnerLeast}
+use Rattle.stn_model.specs.ArcWalks.{IsInnerLeast}
 use Rattle.stn_model.specs.Joined.{IsJoined}
 use Rattle.stn_model.proofs.ArcLemmas.{lower_arc}
-use Rattle.stn_walk.specs.Eliminations.{is_in, cell_of, before_both}
+use Rattle.stn_walk.specs.Eliminations.{is_in, before_both}
 use Rattle.stn_walk.specs.Joins.{joined_of}
 use Rattle.stn_walk.proofs.Eliminations.{cell-least}
 use Rattle.stn_walk.proofs.Joins.{is_in-reverse, joined-symmetric, joined-wider, test-from_edge}
@@ -27,16 +26,19 @@ use Rattle.elim_step.specs.declared.summary.SummaryEntry.{SummaryEntry}
 use Rattle.elim_step.specs.Eliminates.{remains, sum_through}
 use Rattle.elim_step.specs.Eliminated.{weight_at}
 use Rattle.elim_step.specs.Revisits.{reach_of, out_sum, in_sum, IsLeastSum, Revisits}
-use Rattle.elim_step.proofs.FinalWeights.{IsStrange, Prepared, finals_are_least}
+use Rattle.elim_step.proofs.FinalWeights.{Prepared, finals_are_least}
 use Rattle.private_elim.specs.Locals.{LocalView, local_of, arcs_in, point_at, private_at, is_private_in}
 use Rattle.private_elim.specs.Taken.{IsTaken}
 use Rattle.private_elim.specs.Backs.{HoldsFinals}
 use Rattle.private_elim.specs.Sweeps.{IsSwept}
-use Rattle.private_elim.proofs.Places.{place_contained}
-use Rattle.private_elim.proofs.LocalFacts.{arc_joins, some_point, z_first, lower_contained}
+use Rattle.private_elim.proofs.Places.{place_nowhere}
+use Rattle.private_elim.proofs.LocalFacts.{some_point, z_first, lower_contained}
+use Rattle.private_elim.proofs.TakenFacts.{none_from_strange, none_to_strange}
+use Rattle.private_elim.proofs.Takes.{private_at_is, facts}
+use Rattle.private_elim.proofs.Choices.{few_taken}
 use Rattle.private_elim.proofs.Orders.{in-first, in-rest, before-behind}
-use Rattle.private_elim.proofs.OwnWalks.{from_private, to_private, starts_at, ends_at, least_from_private, least_to_private}
-use Rattle.private_elim.proofs.SweepParts.{points_apart, private_place, few_order, joined_in_order, order_joins, joined_turned, left, cut, fresh, in_front, left_private, here_private, none_left, cell_out, cell_back, join_out, cells_apart}
+use Rattle.private_elim.proofs.OwnWalks.{from_private, to_private, least_from_private, least_to_private}
+use Rattle.private_elim.proofs.SweepParts.{points_apart, joined_in_order, order_joins, joined_turned, left, cut, fresh, in_front, left_private, here_private, none_left, cell_out, cell_back, join_out, cells_apart}
 
 -- what holds of the pairs that a revisit sets, and of all others, holds of all pairs
 by_pair : (k : ℕ) (later : List ℕ) (P : ℕ → ℕ → Type 0) → ((q : ℕ) → blocks.is_in q later ≡ true → P k q) → ((p : ℕ) → blocks.is_in p later ≡ true → P p k)
@@ -140,29 +142,16 @@ module _ (v : LocalView) (order : List ℕ) (f : ℕ → ℕ → Option Cell) (j
       (λ p h. ap (λ es. is_in (before_both es x y) p) (cut v order f joined remain t n k lt lk is)
       ∙ before-behind (reverse (drop (n + 1) order)) (z ∷ before) x y (done_outside m lm (later_done m first).0) (done_outside j lj (later_done j second).0) p h) through)
 
-  -- a point that has no place is reached by no own walk
-  strange_from : (p : ℕ) (w : List Constraint) → IsStrange v.points p → IsInner (is_in before) (arcs_in v) (point_at v.points k) p w → ⊥
-  strange_from p w away h =
-      let last = ends_at (is_in before) (arcs_in v) (point_at v.points k) p w h in
-      let there = place_contained v.points last.0.to.0 (arc_joins v t.known last.0 last.1).ends in
-      away there.0 there.1 (there.2 ∙ last.2)
-
-  strange_to : (p : ℕ) (w : List Constraint) → IsStrange v.points p → IsInner (is_in before) (arcs_in v) p (point_at v.points k) w → ⊥
-  strange_to p w away h =
-      let first = starts_at (is_in before) (arcs_in v) p (point_at v.points k) w h in
-      let there = place_contained v.points first.0.from.0 (arc_joins v t.known first.0 first.1).starts in
-      away there.0 there.1 (there.2 ∙ first.2)
-
   -- z is one of them
   z_later : blocks.is_in 0 later ≡ true
   z_later =
       let some = some_point v t.known in
       let here = here_private v order f joined remain t n k lt lk is in
-      let other : 0 ≢ k = λ e. false≢true (ap (private_at v) e ∙ sym (private_place v order f joined remain t k lk) ∙ here) in
+      let other : 0 ≢ k = λ e. false≢true (ap (private_at v) e ∙ sym (private_at_is v t.known k lk) ∙ here) in
       let above : 0 < k = omega arith in
       let away : is_in before (point_at v.points 0) ≡ false =
       false_from_ne_true (is_in before (point_at v.points 0))
-      (λ h. false≢true (sym (private_place v order f joined remain t 0 some) ∙ left_private v order f joined remain t n k lt lk is (point_at v.points 0) h)) in
+      (λ h. false≢true (sym (private_at_is v t.known 0 some) ∙ left_private v order f joined remain t n k lt lk is (point_at v.points 0) h)) in
       let edge = test-from_edge (arcs_in v) (point_at v.points k) (point_at v.points 0) (
         lower_arc (point_at v.points k),
         lower_contained v t.known k above lk,
@@ -196,7 +185,7 @@ module _ (v : LocalView) (order : List ℕ) (f : ℕ → ℕ → Option Cell) (j
   -- weights are far below what a revisit allows
   pub finals_light : AllLight 99 at
   finals_light = λ p q.
-      let few = few_order v order f joined remain t in
+      let few = few_taken (record { local = v; order = order }) (facts v order f joined remain t) in
       far (at p q) (s.light p q) few
     where
       far : (o : Option Cell) → IfSome o (λ c. nat_abs c.weight ≤ 9007199254740992 + (length order - (n + 1)) * 4503599627370496) → length order ≤ 4096 → IfSome o (λ c. IsLight 99 c.weight)
@@ -239,8 +228,8 @@ module _ (v : LocalView) (order : List ℕ) (f : ℕ → ℕ → Option Cell) (j
       back = least_back;
       joined = λ m lm out other none. cells_apart v order f joined remain t n k lt lk is m lm other out (not_joined m lm out other none);
       strange = λ p away out. (
-        λ w h. strange_from p w away (from_private v net e (is_in before) private (point_at v.points k) p w here h),
-        λ w h. strange_to p w away (to_private v net e (is_in before) private p (point_at v.points k) w here h),
+        λ w h. none_to_strange v t.known (is_in before) (point_at v.points k) p (place_nowhere v.points p away) w (from_private v net e (is_in before) private (point_at v.points k) p w here h),
+        λ w h. none_from_strange v t.known (is_in before) p (point_at v.points k) (place_nowhere v.points p away) w (to_private v net e (is_in before) private p (point_at v.points k) w here h),
       );
       outside = λ m h. (within m h, later_left m h, later_other m h);
       between = λ m j first second apart.
