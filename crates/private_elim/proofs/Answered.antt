@@ -1,8 +1,7 @@
 -- What the answers of an elimination say, sentence by sentence.
-use Rattle.std.proofs.Common.{◌≡◌, ℕ, ◌<◌, List, Bool, true, false, ap, sym, ◌∙◌, refl, subst, map, length, take}
+use Rattle.std.proofs.Common.{◌≡◌, ℕ, ◌<◌, List, true, false, ap, sym, ◌∙◌, refl, subst, map, length, take}
 use Rattle.std.specs.Prelude.{reverse, slice_index, ◌↔◌}
 use Rattle.std.specs.List.{AllByRecursion}
-use Rattle.stn_model.specs.Net.{Net}
 use Rattle.stn_model.specs.Walks.{AllDifferent, IsNormal}
 use Rattle.stn_model.specs.Conflicts.{IsOwnConflict}
 use Rattle.stn_model.specs.Summaries.{IsSummary}

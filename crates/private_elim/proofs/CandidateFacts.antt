@@ -1,5 +1,5 @@
 -- One candidate more.
-use Rattle.std.proofs.Common.{zero, suc, ◌≡◌, ℕ, ◌+◌, ◌<◌, List, [], ◌∷◌, ◌++◌, Bool, true, false, ◌&&◌, ap, sym, ◌∙◌, refl, arith, subst, length, get_or, take, map}
+use Rattle.std.proofs.Common.{◌≡◌, ℕ, ◌+◌, ◌<◌, List, [], ◌∷◌, ◌++◌, Bool, true, false, ◌&&◌, ap, sym, ◌∙◌, refl, subst, length, take, map}
 use Rattle.std.specs.Prelude.{if◌then◌else◌, filter, not}
 use Rattle.std.specs.List.{AllByRecursion}
 use Rattle.std.proofs.lemmas.List.{take_more, map-append}

@@ -1,5 +1,5 @@
 -- Which point is taken next, and when none is left.
-use Rattle.std.proofs.Common.{zero, suc, ◌≡◌, ◌≢◌, ℕ, ◌+◌, ◌<◌, ◌≤◌, List, [], ◌∷◌, ◌++◌, Bool, true, false, ◌&&◌, ◌||◌, not, Option, Some, None, ap, sym, ◌∙◌, refl, arith, subst, length, get_or, take, map}
+use Rattle.std.proofs.Common.{zero, suc, ◌≡◌, ◌≢◌, ℕ, ◌<◌, ◌≤◌, List, [], ◌∷◌, ◌++◌, Bool, true, false, ◌&&◌, ◌||◌, not, Option, Some, None, ap, sym, ◌∙◌, refl, arith, subst, length, get_or, take, map}
 use Rattle.std.specs.Prelude.{◌==◌, if◌then◌else◌, filter, reverse, slice_index, slice_index_or}
 use Rattle.std.specs.List.{AllByRecursion}
 use Rattle.std.proofs.lemmas.Bool.Decides.{nat_tests}
@@ -11,7 +11,6 @@ use Rattle.stn_walk.proofs.Different.{few_different, different_at}
 use Rattle.stn_walk.proofs.Joins.{is_in-reverse}
 use Rattle.elim_step.specs.declared.pick.Candidate.{Candidate}
 use Rattle.elim_step.specs.Picks.{candidate_at}
-use Rattle.elim_step.specs.Eliminated.{point_at}
 use Rattle.private_elim.specs.Locals.{LocalView, IsLocal, is_private_in, place_in, private_at, passes_at}
 use Rattle.private_elim.specs.Taken.{TakenView, HasTaken, StopsAt}
 use Rattle.private_elim.specs.Picked.{AreCandidates, IsPicked, ArePicked}
@@ -21,7 +20,7 @@ use Rattle.private_elim.specs.declared.outcome.PrivateOutcome.TheVariants.{Reduc
 use Rattle.private_elim.specs.Outcomes.{IsNext, IsReducedFrom, IsConflictFrom, IsListedOutcome, IsPickedOutcome, IsReducedWith}
 use Rattle.private_elim.proofs.LocalFacts.{points_small}
 use Rattle.private_elim.proofs.Takes.{order_push}
-use Rattle.private_elim.proofs.Places.{place_found, place_missing}
+use Rattle.private_elim.proofs.Places.{place_found}
 
 -- a private point has a place
 pub private_placed : (v : LocalView) (p : ℕ) → is_private_in v p ≡ true → (k : ℕ) × (place_in v.points p ≡ Some k)

@@ -1,10 +1,9 @@
 -- How many places remain and are joined with a place: the degree of its point.
 use Rattle.std.proofs.Common.{zero, suc, ◌≡◌, ◌≢◌, ℕ, ◌+◌, ◌<◌, ◌≤◌, List, [], ◌∷◌, ◌++◌, Bool, true, false, ◌&&◌, ◌||◌, not, Option, Some, None, ap, sym, ◌∙◌, refl, arith, subst, length, length-append, get_or, inl, inr, ◌⊎◌}
-use Rattle.std.specs.Prelude.{◌==◌, if◌then◌else◌, is_some, reverse, ◌↔◌}
-use Rattle.std.specs.List.{AllByRecursion}
+use Rattle.std.specs.Prelude.{◌==◌, if◌then◌else◌, is_some, reverse}
 use Rattle.std.proofs.lemmas.Bool.Decides.{nat_tests}
 use Rattle.stn_model.specs.Walks.{AllDifferent}
-use Rattle.stn_walk.specs.Eliminations.{is_in, before_both}
+use Rattle.stn_walk.specs.Eliminations.{is_in}
 use Rattle.stn_walk.specs.Joins.{joined_of, HasPath}
 use Rattle.stn_walk.proofs.Different.{AllDifferent-push}
 use Rattle.stn_walk.proofs.Joins.{path-from_joined, joined-from_path}

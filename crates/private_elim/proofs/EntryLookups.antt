@@ -1,10 +1,8 @@
 -- What a look-up in a summary answers.
-use Rattle.std.proofs.Common.{◌≡◌, ℕ, suc, zero, ◌<◌, Bool, true, false, ◌&&◌, List, [], ◌∷◌, map, Option, Some, None, if◌then◌else◌, refl, sym, ap, subst, ◌∙◌, arith}
+use Rattle.std.proofs.Common.{◌≡◌, ℕ, suc, zero, ◌<◌, Bool, true, false, ◌&&◌, List, [], ◌∷◌, map, Some, if◌then◌else◌, refl, sym, ap, subst, ◌∙◌, arith}
 use Rattle.std.specs.Prelude.{ℤ, ◌==◌, is_some}
 use Rattle.std.specs.List.{AllByRecursion, Contains}
 use Rattle.std.proofs.lemmas.Bool.Decides.{nat_tests}
-use Rattle.stn_model.specs.declared.ids.Constraint.{Constraint}
-use Rattle.stn_model.specs.ArcWalks.{IsInnerLeast}
 use Rattle.stn_model.specs.Net.{Net}
 use Rattle.stn_model.specs.Summaries.{Entry, IsEntryWeight, entry_weight}
 use Rattle.stn_walk.proofs.Visits.{least_unique}

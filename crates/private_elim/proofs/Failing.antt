@@ -1,10 +1,8 @@
 -- What a point that fails shows: it is not taken, the weights between it and the other are the forward weights, and the walks of these
 -- weights, one after the other, are a closed walk below 0: failing_left, failing_out, failing_back, closes_below.
-use Rattle.std.proofs.Common.{◌≡◌, ℕ, Bool, true, false, List, ◌++◌, Option, Some, None, refl, ap, ◌∙◌, arith}
-use Rattle.std.specs.Prelude.{ℤ}
+use Rattle.std.proofs.Common.{◌≡◌, ℕ, true, false, List, ◌++◌, Some, refl, ◌∙◌, arith}
 use Rattle.std.proofs.lemmas.Int.{ints}
-use Rattle.stn_model.specs.declared.ids.Constraint.{Constraint}
-use Rattle.stn_model.specs.ArcWalks.{IsInnerLeast, NoNegative}
+use Rattle.stn_model.specs.ArcWalks.{NoNegative}
 use Rattle.stn_model.specs.Walks.{IsWalk, weight, IsNegativeClosed}
 use Rattle.stn_model.proofs.WalkLemmas.{IsWalk-append, weight-append}
 use Rattle.stn_walk.specs.Eliminations.{is_in, cell_of}

@@ -1,6 +1,6 @@
 -- Cycles of arcs of the two walks between a failing point and another, and the own conflicts of networks that they are: cycle_points,
 -- places_within, is_own_conflict, is_normal.
-use Rattle.std.proofs.Common.{◌≡◌, ◌≢◌, ℕ, ◌+◌, ◌<◌, ◌≤◌, Bool, true, false, not, ◌||◌, List, [], ◌∷◌, ◌++◌, length, map, reverse, refl, sym, ap, subst, ◌∙◌, arith, ⊎_elim, ◌⊎◌, inl, inr}
+use Rattle.std.proofs.Common.{◌≡◌, ℕ, ◌<◌, ◌≤◌, Bool, true, false, not, ◌||◌, List, [], ◌∷◌, ◌++◌, length, map, reverse, refl, sym, ap, subst, ◌∙◌, arith, ⊎_elim, ◌⊎◌, inl, inr}
 use Rattle.std.specs.Prelude.{◌==◌, pos, ◌<ℤ◌}
 use Rattle.std.specs.List.{AllByRecursion, All, Contains, count_by}
 use Rattle.std.proofs.lemmas.Bool.Decides.{nat_tests}

@@ -1,13 +1,12 @@
 -- Arcs laid into cells one by one, and the elimination that begins with them.
-use Rattle.std.proofs.Common.{zero, suc, ◌≡◌, ◌≢◌, ℕ, ◌+◌, ◌<◌, ◌≤◌, List, [], ◌∷◌, ◌++◌, Bool, true, false, ◌&&◌, ◌||◌, not, Option, Some, None, ap, sym, ◌∙◌, refl, arith, subst, length, get_or, take, map, inl, inr, ◌⊎◌}
-use Rattle.std.specs.Prelude.{ℤ, pos, neg_ℤ, ◌≤ℤ◌, ◌<ℤ◌, ◌==◌, if◌then◌else◌, is_some, IfSome, int_lt, Contains, replicate, slice_index_or}
-use Rattle.std.specs.List.{list_any}
+use Rattle.std.proofs.Common.{zero, suc, ◌≡◌, ◌≢◌, ℕ, ◌+◌, ◌<◌, List, [], ◌∷◌, ◌++◌, Bool, true, false, ◌&&◌, ◌||◌, not, Option, Some, None, ap, sym, ◌∙◌, refl, arith, length, take, inl, inr, ◌⊎◌}
+use Rattle.std.specs.Prelude.{ℤ, pos, neg_ℤ, ◌≤ℤ◌, ◌<ℤ◌, ◌==◌, if◌then◌else◌, IfSome, int_lt, Contains, replicate}
 use Rattle.std.proofs.lemmas.Bool.Decides.{nat_tests}
 use Rattle.std.proofs.lemmas.Int.{ints}
 use Rattle.std.proofs.lemmas.List.{take_more, take_all, length-map, get_or-map, length-replicate}
 use Rattle.stn_model.specs.declared.ids.Constraint.{Constraint}
 use Rattle.stn_model.specs.Arcs.{arc_at, no_arc}
-use Rattle.stn_model.specs.ArcWalks.{IsInner, NoNegative}
+use Rattle.stn_model.specs.ArcWalks.{NoNegative}
 use Rattle.stn_walk.specs.Eliminations.{is_in, bound_of, lesser}
 use Rattle.stn_walk.specs.Joins.{has_edge}
 use Rattle.dist_rows.specs.declared.cell.Cell.{Cell}
@@ -15,7 +14,7 @@ use Rattle.dist_rows.specs.declared.cell.Via.TheVariants.{Given}
 use Rattle.dist_rows.specs.Cells as cells
 use Rattle.dist_rows.specs.Matrix.{in_room}
 use Rattle.elim_step.specs.Eliminates.{remains}
-use Rattle.elim_step.specs.Eliminated.{weight_at, point_at, IsGround}
+use Rattle.elim_step.specs.Eliminated.{weight_at, point_at}
 use Rattle.private_elim.specs.Locals.{LocalView, IsLocal, arcs_in, local_arc_at, place_in, all_numbered}
 use Rattle.private_elim.specs.Origins.{IsArcOf}
 use Rattle.private_elim.specs.Laid.{IsLaid, IsLaidArc}

@@ -13,7 +13,7 @@ use Rattle.stn_model.specs.Joined.{IsJoined}
 use Rattle.stn_model.specs.Walks.{AllDifferent}
 use Rattle.stn_walk.specs.Eliminations.{is_in, before_both, cell_of}
 use Rattle.stn_walk.specs.Joins.{joined_of}
-use Rattle.stn_walk.proofs.Eliminations.{cell-least, before-in}
+use Rattle.stn_walk.proofs.Eliminations.{cell-least}
 use Rattle.stn_walk.proofs.Joins.{is_in-reverse, joined-symmetric, joined-from_walk, joined-from_order, order-from_joined}
 use Rattle.stn_walk.proofs.Visits.{inner_in}
 use Rattle.dist_rows.specs.declared.cell.Cell.{Cell}

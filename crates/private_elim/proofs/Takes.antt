@@ -1,30 +1,27 @@
 -- Taking one private point: what is known stays known, and a point that fails does so as the definition says.
 use Rattle.std.proofs.Common.{zero, suc, ◌≡◌, ◌≢◌, ℕ, ◌<◌, ◌≤◌, List, [], ◌∷◌, ◌++◌, Bool, true, false, ◌&&◌, ◌||◌, not, Option, Some, None, ap, sym, ◌∙◌, refl, arith, subst, length, get_or, set, inl, inr, ◌⊎◌}
-use Rattle.std.specs.Prelude.{ℤ, pos, neg_ℤ, ◌+ℤ◌, ◌≤ℤ◌, ◌<ℤ◌, ◌==◌, if◌then◌else◌, is_some, reverse, Contains, ⊤, IfSome, nat_abs, ◌*◌}
+use Rattle.std.specs.Prelude.{ℤ, pos, neg_ℤ, ◌+ℤ◌, ◌≤ℤ◌, ◌<ℤ◌, ◌==◌, if◌then◌else◌, is_some, reverse, IfSome, nat_abs, ◌*◌}
 use Rattle.std.specs.List.{AllByRecursion}
 use Rattle.std.proofs.lemmas.Bool.Decides.{nat_tests}
 use Rattle.std.proofs.lemmas.Int.{ints}
 use Rattle.std.proofs.lemmas.List.{reverse-append}
-use Rattle.stn_model.specs.declared.ids.Constraint.{Constraint}
-use Rattle.stn_model.specs.ArcWalks.{IsInner, IsInnerLeast, NoNegative, arcs_weight}
-use Rattle.stn_model.specs.Inner.{IsInnerWeight, NoNegativeWithin}
-use Rattle.stn_model.specs.Walks.{AllDifferent}
+use Rattle.stn_model.specs.ArcWalks.{IsInnerLeast, NoNegative}
+use Rattle.stn_model.specs.Inner.{NoNegativeWithin}
 use Rattle.stn_walk.specs.Eliminations.{is_in, cell_of, before_both}
 use Rattle.stn_walk.specs.Joins.{joined_of}
 use Rattle.stn_walk.proofs.ArcWalks.{arcs_weight-append}
 use Rattle.stn_walk.proofs.Visits.{inner_joined, inner_wider, least_unique, at_point, inner_in}
-use Rattle.stn_walk.proofs.Eliminations.{cell-least, before-whole, before-in}
+use Rattle.stn_walk.proofs.Eliminations.{cell-least, before-in}
 use Rattle.stn_walk.proofs.LightWalks.{IsBelow, HasBounds, least_light}
 use Rattle.stn_walk.proofs.Different.{AllDifferent-push}
 use Rattle.stn_walk.proofs.Joins.{is_in-reverse, joined-symmetric}
 use Rattle.dist_rows.specs.declared.cell.Cell.{Cell}
 use Rattle.elim_step.specs.Eliminates.{remains, is_below, is_negative, eliminated}
-use Rattle.elim_step.specs.Eliminated.{IsGround, IsEliminated, IsListed, weight_at, point_at}
+use Rattle.elim_step.specs.Eliminated.{IsGround, weight_at, point_at}
 use Rattle.elim_step.proofs.Weights.{forward-whole, sums_below, negative-is}
 use Rattle.elim_step.proofs.Sound.{eliminates_more}
 use Rattle.elim_step.proofs.JoinFacts.{joined-after}
 use Rattle.private_elim.specs.Locals.{LocalView, IsLocal, arcs_in, is_private_in, is_point_of, place_in, private_at, passes_at}
-use Rattle.private_elim.specs.Origins.{HasOrigins}
 use Rattle.private_elim.specs.Taken.{IsTaken, Fails, StopsAt, NoneFails, HasTaken}
 use Rattle.private_elim.proofs.LocalFacts.{rises, points_small, arc_joins, place_of_point_at}
 use Rattle.private_elim.proofs.Places.{place_contained, place_found}

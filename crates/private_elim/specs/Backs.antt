@@ -1,5 +1,5 @@
 -- What the back sweep gives: bound_at, bound_between, IsPrivatePair, HoldsFinals, IsLeastIn.
-use Rattle.std.specs.Prelude.{◌≡◌, ℕ, ℤ, Bool, true, false, ◌||◌, Option, Some, None, slice_index_or, if◌then◌else◌}
+use Rattle.std.specs.Prelude.{◌≡◌, ℕ, ℤ, true, false, ◌||◌, Option, Some, None, slice_index_or, if◌then◌else◌}
 use Rattle.stn_model.specs.Net.{Net, point_count, arcs_of}
 use Rattle.stn_model.specs.Joined.{IsJoined}
 use Rattle.stn_model.specs.Schedules.{IsConsistent, IsLeastBound}

@@ -1,5 +1,5 @@
 -- The cells and joined places of some arcs alone: IsLaidArc, IsLaid.
-use Rattle.std.specs.Prelude.{◌≡◌, ◌≢◌, ℕ, ◌<◌, List, Bool, ◌&&◌, ◌||◌, ◌==◌, not, Option, Some, length, take, IfSome}
+use Rattle.std.specs.Prelude.{◌≡◌, ◌≢◌, ℕ, ◌<◌, Bool, ◌&&◌, ◌||◌, ◌==◌, not, Option, Some, length, take, IfSome}
 use Rattle.stn_walk.specs.Eliminations.{bound_of}
 use Rattle.stn_walk.specs.Joins.{has_edge}
 use Rattle.dist_rows.specs.declared.cell.Cell.{Cell}

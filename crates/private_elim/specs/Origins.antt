@@ -1,6 +1,6 @@
 -- Where the weights of cells come from: rank_in, rank_of, IsArcOf, IsSumOf, IsOrigin, HasOrigins. The eliminated points are listed with the
 -- last one first.
-use Rattle.std.specs.Prelude.{◌≡◌, ℕ, suc, ◌<◌, ◌+ℤ◌, List, [], ◌∷◌, Bool, true, Option, Some, length, ◌==◌, if◌then◌else◌, IfSome}
+use Rattle.std.specs.Prelude.{◌≡◌, ℕ, suc, ◌<◌, ◌+ℤ◌, List, [], ◌∷◌, true, Option, Some, length, ◌==◌, if◌then◌else◌, IfSome}
 use Rattle.stn_model.specs.declared.ids.Constraint.{Constraint}
 use Rattle.stn_model.specs.Arcs.{from_at, to_at, bound_at}
 use Rattle.stn_walk.specs.Eliminations.{is_in}

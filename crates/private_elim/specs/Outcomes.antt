@@ -1,6 +1,6 @@
 -- What the elimination of an agent's private points comes to, at one stroke: IsNext, IsReducedWith, IsConflictWith, IsReducedFrom, IsConflictFrom,
 -- IsPickedOutcome, IsListedOutcome.
-use Rattle.std.specs.Prelude.{◌≡◌, ℕ, ◌<◌, List, Bool, true, false, length, reverse, take, slice_index}
+use Rattle.std.specs.Prelude.{◌≡◌, ℕ, ◌<◌, List, true, false, length, reverse, take, slice_index}
 use Rattle.std.specs.List.{AllByRecursion}
 use Rattle.stn_model.specs.Walks.{AllDifferent, IsNormal}
 use Rattle.stn_model.specs.Conflicts.{IsOwnConflict}

@@ -1,6 +1,6 @@
 -- The order in which a picker takes private points: IsDegree, IsCandidate, AreCandidates, IsPicked, ArePicked. The points taken are listed
 -- with the last one first.
-use Rattle.std.specs.Prelude.{◌≡◌, ◌≢◌, ◌↔◌, ℕ, List, [], ◌∷◌, Bool, true, false, ◌&&◌, not, Some, length, map, filter, ⊤}
+use Rattle.std.specs.Prelude.{◌≡◌, ◌≢◌, ◌↔◌, ℕ, List, [], ◌∷◌, true, false, ◌&&◌, not, Some, length, map, filter, ⊤}
 use Rattle.std.specs.List.{AllByRecursion}
 use Rattle.stn_model.specs.Walks.{AllDifferent}
 use Rattle.stn_model.specs.Joined.{IsPath}

@@ -1,5 +1,5 @@
 -- What contracts see of a reduced local problem: ReducedView, entry_of, entry_in, weight_between, IsReduced.
-use Rattle.std.specs.Prelude.{◌≡◌, ℕ, ℤ, List, [], ◌∷◌, Bool, true, ◌&&◌, ◌==◌, Option, Some, None, map, reverse, if◌then◌else◌}
+use Rattle.std.specs.Prelude.{◌≡◌, ℕ, ℤ, List, [], ◌∷◌, true, ◌&&◌, ◌==◌, Option, Some, None, map, reverse, if◌then◌else◌}
 use Rattle.stn_model.specs.Net.{Net}
 use Rattle.stn_model.specs.Valid.{IsNetwork}
 use Rattle.stn_model.specs.Summaries.{Entry, IsSummary}
@@ -7,7 +7,6 @@ use Rattle.stn_walk.specs.Eliminations.{is_in}
 use Rattle.elim_step.specs.declared.summary.SummaryEntry.{SummaryEntry}
 use Rattle.elim_step.specs.Eliminated.{forward_of}
 use Rattle.private_elim.specs.Locals.{LocalView, local_of, arcs_in, is_private_in}
-use Rattle.private_elim.specs.Taken.{TakenView}
 
 -- a local problem, the order in which its private points were taken, and its summary
 pub record ReducedView : Type 0 where

@@ -1,19 +1,15 @@
 -- A local problem whose private points are all taken, and the answers of its reduction: entry_of, entry_in, ReducedView, IsReduced, weight_between,
 -- is_conflict, IfReduced, IfConflict, and what they say of a network: OfNetwork, HasOwnConflict, AreOwn.
-use Rattle.std.specs.Prelude.{◌≡◌, ℕ, ℤ, List, [], ◌∷◌, Bool, true, false, ◌&&◌, ◌==◌, Option, Some, None, map, reverse, if◌then◌else◌}
+use Rattle.std.specs.Prelude.{◌≡◌, ℕ, List, Bool, true, false}
 use Rattle.std.specs.List.{AllByRecursion}
 use Rattle.stn_model.specs.Arcs.{arc_at}
 use Rattle.stn_model.specs.Net.{Net, arcs_of}
 use Rattle.stn_model.specs.Valid.{IsNetwork}
 use Rattle.stn_model.specs.Kinds.{is_own}
 use Rattle.stn_model.specs.Conflicts.{IsOwnConflict}
-use Rattle.stn_model.specs.Summaries.{Entry, IsSummary}
-use Rattle.stn_walk.specs.Eliminations.{is_in}
-use Rattle.elim_step.specs.declared.summary.SummaryEntry.{SummaryEntry}
-use Rattle.elim_step.specs.Eliminated.{forward_of}
 use Rattle.private_elim.specs.declared.outcome.PrivateOutcome.{PrivateOutcome}
 use Rattle.private_elim.specs.declared.outcome.PrivateOutcome.TheVariants.{Reduced, Conflict}
-use Rattle.private_elim.specs.Locals.{LocalView, local_of, arcs_in, is_private_in}
+use Rattle.private_elim.specs.Locals.{LocalView, local_of}
 use Rattle.private_elim.specs.ReducedViews.{ReducedView}
 
 -- what holds of every network whose local problem it is

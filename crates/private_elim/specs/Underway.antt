@@ -1,5 +1,5 @@
 -- How the fields of an elimination are seen, and what is true of them: taken_view, IsUnderway.
-use Rattle.std.specs.Prelude.{◌≡◌, ℕ, ◌<◌, ◌&&◌, List, map, length, slice_index_or, true}
+use Rattle.std.specs.Prelude.{◌≡◌, ℕ, map, length, slice_index_or, true}
 use Rattle.dist_rows.specs.Matrix.{cell_at}
 use Rattle.elim_step.specs.Eliminates.{remains}
 use Rattle.elim_step.specs.JoinedPlaces.{is_joined}

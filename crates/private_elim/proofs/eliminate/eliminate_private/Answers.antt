@@ -1,7 +1,4 @@
-use Rattle.std.proofs.Common.{◌≡◌, ℕ, ap, sym, ◌∙◌, subst}
-use Rattle.std.specs.Prelude.{IfOk}
 use Rattle.std.proofs.lemmas.Result.{IfOk-weaker}
-use Rattle.private_elim.specs.Locals.{LocalView}
 use Rattle.private_elim.specs.Outcomes.{IsPickedOutcome}
 use Rattle.private_elim.proofs.Answered.{sound_picked, exactly, cycle_is, private_is, whole_is, summary_is, picks_is, stops_is}
 use Rattle.private_elim.proofs.eliminate.eliminate_private.Goals as goal

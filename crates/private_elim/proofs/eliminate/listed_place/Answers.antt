@@ -1,4 +1,4 @@
-use Rattle.std.proofs.Common.{◌≡◌, ap, sym, ◌∙◌}
+use Rattle.std.proofs.Common.{sym, ◌∙◌}
 use Rattle.private_elim.proofs.Choices.{listed_next}
 use Rattle.private_elim.proofs.eliminate.listed_place.Goals as goal
 

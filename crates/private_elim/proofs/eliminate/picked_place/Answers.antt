@@ -1,4 +1,4 @@
-use Rattle.std.proofs.Common.{◌≡◌, ap, sym, ◌∙◌}
+use Rattle.std.proofs.Common.{sym, ◌∙◌}
 use Rattle.std.specs.Prelude.{reverse}
 use Rattle.private_elim.proofs.Choices.{candidate_placed, candidate_next}
 use Rattle.private_elim.proofs.eliminate.picked_place.Goals as goal

@@ -1,14 +1,12 @@
-use Rattle.std.proofs.Common.{◌≡◌, ◌++◌, ◌∷◌, [], ℕ, ◌<◌, None, Some, ap, sym, ◌∙◌, arith, rules, map, take, length, subst, get_or, List}
-use Rattle.std.specs.Prelude.{reverse, slice_index, MatchOption, true}
-use Rattle.std.proofs.lemmas.List.{take_more, take_all, length-map}
+use Rattle.std.proofs.Common.{◌≡◌, ap, sym, ◌∙◌, arith, map, take}
+use Rattle.std.specs.Prelude.{reverse}
+use Rattle.std.proofs.lemmas.List.{take_all, length-map}
 use Rattle.std.proofs.lemmas.Result.{IfOk-weaker}
 use Rattle.stn_model.specs.declared.ids.PointId.{PointId}
-use Rattle.elim_step.specs.Eliminated.{point_at}
 use Rattle.stn_walk.specs.Eliminations.{is_in}
 use Rattle.private_elim.specs.Locals.{LocalView, is_private_in}
-use Rattle.private_elim.specs.Taken.{TakenView, StopsAt, Fails}
-use Rattle.private_elim.specs.Outcomes.{IsReducedFrom, IsConflictFrom, IsListedOutcome}
-use Rattle.private_elim.proofs.Choices.{listed_reduced, listed_conflict}
+use Rattle.private_elim.specs.Outcomes.{IsReducedFrom, IsListedOutcome}
+use Rattle.private_elim.proofs.Choices.{listed_reduced}
 use Rattle.private_elim.proofs.eliminate.take_listed.Goals as goal
 
 pub conflict-requires-clause-within : goal.conflict-requires-clause-within

@@ -1,12 +1,10 @@
-use Rattle.std.proofs.Common.{◌≡◌, ◌++◌, ◌∷◌, [], ℕ, ◌<◌, None, Some, ap, sym, ◌∙◌, arith, length, length-append, subst}
+use Rattle.std.proofs.Common.{◌≡◌, ◌++◌, ◌∷◌, [], ap, sym, ◌∙◌, arith, length, length-append, subst}
 use Rattle.std.specs.Prelude.{reverse, IfOk}
 use Rattle.private_elim.specs.Locals.{LocalView}
 use Rattle.std.proofs.lemmas.Result.{IfOk-weaker}
 use Rattle.elim_step.specs.Eliminated.{point_at}
-use Rattle.elim_step.specs.Picks.{Picks, candidate_at}
-use Rattle.private_elim.specs.Taken.{TakenView, StopsAt}
-use Rattle.private_elim.specs.Picked.{AreCandidates, IsPicked}
-use Rattle.private_elim.specs.Outcomes.{IsReducedFrom, IsConflictFrom, IsPickedOutcome}
+use Rattle.elim_step.specs.Picks.{candidate_at}
+use Rattle.private_elim.specs.Outcomes.{IsReducedFrom, IsConflictFrom}
 use Rattle.private_elim.proofs.Choices.{few_taken, none_left, picked_reduced, picked_stop, picked_more}
 use Rattle.private_elim.proofs.eliminate.take_picked.Goals as goal
 
@@ -30,7 +28,7 @@ returns-in-Some-2 g c =
     let is : point_at t.local.points place ≡ (candidate_at cs c.in-Some.k).number = (rw c.as_slice-in-taking.ensures.value at c.picked_place-place.ensures.is) in
     IfOk-weaker c.conflict.result (IsConflictFrom c.take.new.self (point_at t.local.points c.in-Some-2.other)) _
     (λ o h. picked_stop _ c.args.part.local t c.take.new.self (point_at t.local.points place) (point_at t.local.points c.in-Some-2.other) o c.in_ok-other.ensures.local stops.1 c.taking.invariant.local c.taking.invariant.picked
-        (record { candidates = cs; are = c.in_ok-candidates.ensures; place = c.in-Some.k; picks = picks; is = sym is }) stops.2 h)
+    (record { candidates = cs; are = c.in_ok-candidates.ensures; place = c.in-Some.k; picks = picks; is = sym is }) stops.2 h)
     (subst (λ (w : LocalView). IfOk c.conflict.result (IsConflictFrom c.take.new.self (point_at w.points c.in-Some-2.other))) c.in_ok-other.ensures.local c.conflict.ensures)
 
 pub taking-smaller : goal.taking-smaller

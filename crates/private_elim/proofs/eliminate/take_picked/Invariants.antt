@@ -1,4 +1,4 @@
-use Rattle.std.proofs.Common.{◌≡◌, ◌-◌, length, ℕ}
+use Rattle.std.proofs.Common.{◌≡◌, ◌-◌, length}
 use Rattle.std.specs.Prelude.{reverse}
 use Rattle.private_elim.specs.Picked.{ArePicked}
 use Rattle.private_elim.proofs.eliminate.take_picked.Given as goal

@@ -1,5 +1,5 @@
-use Rattle.std.proofs.Common.{◌≡◌, ap, ◌∙◌, rules, take, arith, get_or, set, length-set}
-use Rattle.std.specs.Prelude.{slice_index_or, if◌then◌else◌}
+use Rattle.std.proofs.Common.{ap, ◌∙◌, rules, arith, get_or, set, length-set}
+use Rattle.std.specs.Prelude.{if◌then◌else◌}
 use Rattle.std.proofs.lemmas.List.{take_all}
 use Rattle.elim_step.specs.Blocks.{is_in}
 use Rattle.elim_step.proofs.Lists.{is_in-at}

@@ -1,4 +1,4 @@
-use Rattle.std.proofs.Common.{◌≡◌, ◌≢◌, ap, sym, ◌∙◌, arith}
+use Rattle.std.proofs.Common.{◌≡◌, ap, sym, ◌∙◌, arith}
 use Rattle.dist_rows.specs.Matrix.{cell_at}
 use Rattle.private_elim.specs.declared.local.LocalArc.{LocalArc}
 use Rattle.private_elim.specs.Locals.{local_arc_at}

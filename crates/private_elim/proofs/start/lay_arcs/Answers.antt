@@ -1,7 +1,7 @@
-use Rattle.std.proofs.Common.{◌≡◌, ◌∙◌, rules}
+use Rattle.std.proofs.Common.{◌∙◌, rules}
 use Rattle.dist_rows.specs.Matrix.{cell_at}
 use Rattle.elim_step.specs.JoinedPlaces.{is_joined}
-use Rattle.private_elim.proofs.Laying.{laid_more, laid_none}
+use Rattle.private_elim.proofs.Laying.{laid_more}
 use Rattle.private_elim.proofs.start.lay_arcs.Goals as goal
 
 pub loop-k-preserved : goal.loop-k-preserved

@@ -1,4 +1,4 @@
-use Rattle.std.proofs.Common.{◌≡◌, length}
+use Rattle.std.proofs.Common.{◌≡◌}
 use Rattle.dist_rows.specs.Matrix.{cell_at}
 use Rattle.elim_step.specs.JoinedPlaces.{is_joined}
 use Rattle.private_elim.specs.Laid.{IsLaid}

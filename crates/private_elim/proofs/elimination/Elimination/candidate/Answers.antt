@@ -1,14 +1,12 @@
-use Rattle.std.proofs.Common.{◌≡◌, ◌&&◌, false, ap, sym, ◌∙◌, subst, map, arith}
+use Rattle.std.proofs.Common.{◌&&◌, ap, sym, ◌∙◌, subst, map, arith}
 use Rattle.std.proofs.lemmas.List.{get_or_default}
 use Rattle.std.specs.Prelude.{reverse, not}
 use Rattle.stn_model.specs.declared.ids.PointId.{PointId}
-use Rattle.stn_walk.specs.Eliminations.{is_in}
 use Rattle.dist_rows.specs.Matrix.{cell_at}
 use Rattle.elim_step.specs.Eliminates.{remains, count_below}
 use Rattle.elim_step.specs.Eliminated.{point_at}
 use Rattle.elim_step.specs.JoinedPlaces.{is_joined}
 use Rattle.private_elim.specs.Picked.{IsDegree}
-use Rattle.private_elim.specs.Candidates.{IsCandidate}
 use Rattle.private_elim.proofs.DegreeFacts.{degree_is}
 use Rattle.private_elim.proofs.elimination.Elimination.candidate.Goals as goal
 

@@ -1,9 +1,8 @@
-use Rattle.std.proofs.Common.{◌≡◌, ap, sym, ◌∙◌, rules, map, subst}
-use Rattle.std.specs.Prelude.{reverse, filter}
+use Rattle.std.proofs.Common.{ap, sym, ◌∙◌, rules, map, subst}
+use Rattle.std.specs.Prelude.{reverse}
 use Rattle.std.specs.List.{AllByRecursion}
 use Rattle.elim_step.specs.declared.pick.Candidate.{Candidate}
 use Rattle.elim_step.specs.Eliminated.{point_at}
-use Rattle.private_elim.specs.Candidates.{is_left}
 use Rattle.private_elim.specs.Picked.{IsDegree}
 use Rattle.private_elim.proofs.CandidateFacts.{numbers_more, degrees_more}
 use Rattle.private_elim.proofs.elimination.Elimination.candidates.Goals as goal

@@ -1,4 +1,4 @@
-use Rattle.std.proofs.Common.{◌≡◌, ℕ, ◌&&◌, ap, sym, ◌∙◌, get_or, length, map}
+use Rattle.std.proofs.Common.{◌≡◌, ◌&&◌, ap, sym, ◌∙◌, get_or, length}
 use Rattle.dist_rows.specs.Matrix.{cell_at}
 use Rattle.elim_step.specs.Eliminates.{count_below, remains}
 use Rattle.elim_step.specs.JoinedPlaces.{is_joined}

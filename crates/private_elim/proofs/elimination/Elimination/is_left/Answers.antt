@@ -1,9 +1,8 @@
-use Rattle.std.proofs.Common.{◌≡◌, ◌&&◌, ap, sym, ◌∙◌, map, false, arith}
+use Rattle.std.proofs.Common.{◌&&◌, ap, sym, ◌∙◌, map, false, arith}
 use Rattle.std.proofs.lemmas.List.{get_or_default}
 use Rattle.std.specs.Prelude.{reverse, not}
 use Rattle.stn_walk.specs.Eliminations.{is_in}
 use Rattle.elim_step.specs.Eliminated.{point_at}
-use Rattle.private_elim.specs.Candidates.{is_left}
 use Rattle.private_elim.proofs.Takes.{private_at_is}
 use Rattle.private_elim.proofs.elimination.Elimination.is_left.Goals as goal
 

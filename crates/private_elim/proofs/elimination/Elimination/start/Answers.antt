@@ -1,4 +1,4 @@
-use Rattle.std.proofs.Common.{◌≡◌, ℕ, ◌<◌, true, [], ap, sym, ◌∙◌, arith, map, length}
+use Rattle.std.proofs.Common.{◌≡◌, true, [], ap, sym, ◌∙◌, arith, length}
 use Rattle.std.specs.Prelude.{replicate}
 use Rattle.std.proofs.lemmas.List.{length-replicate}
 use Rattle.dist_rows.specs.Matrix.{cell_at}

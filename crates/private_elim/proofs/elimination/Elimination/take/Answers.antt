@@ -1,10 +1,9 @@
-use Rattle.std.proofs.Common.{◌≡◌, ◌≢◌, ℕ, ◌<◌, List, [], ◌∷◌, ◌++◌, Bool, true, false, ◌&&◌, ◌||◌, not, None, Some, ap, sym, ◌∙◌, refl, arith, map, length, set, get_or}
-use Rattle.std.specs.Prelude.{reverse, is_some, ◌==◌, if◌then◌else◌}
-use Rattle.std.proofs.lemmas.List.{map-append, length-set}
+use Rattle.std.proofs.Common.{◌≡◌, ℕ, ◌<◌, [], ◌∷◌, ◌++◌, true, false, ◌&&◌, ◌||◌, not, None, ap, sym, ◌∙◌, refl, arith, map, length, set, get_or}
+use Rattle.std.specs.Prelude.{reverse, ◌==◌, if◌then◌else◌}
+use Rattle.std.proofs.lemmas.List.{map-append}
 use Rattle.stn_model.specs.declared.ids.PointId.{PointId}
-use Rattle.stn_walk.proofs.Joins.{joined-symmetric}
 use Rattle.dist_rows.specs.Matrix.{cell_at, room-from_cell, within-from_room}
-use Rattle.elim_step.specs.Eliminates.{StepGives, remains, eliminated, count_below}
+use Rattle.elim_step.specs.Eliminates.{StepGives, remains, count_below}
 use Rattle.elim_step.specs.Blocks.{is_in as is_in_block}
 use Rattle.private_elim.specs.Degrees.{degree_of}
 use Rattle.elim_step.specs.declared.step.Found.TheVariants.{Clear, Negative}
@@ -14,7 +13,6 @@ use Rattle.elim_step.proofs.Sound.{all_light}
 use Rattle.elim_step.proofs.JoinFacts.{joined-met, joined-within}
 use Rattle.elim_step.proofs.Whole.{none-from}
 use Rattle.private_elim.specs.Locals.{arcs_in}
-use Rattle.private_elim.specs.Taken.{IsTaken}
 use Rattle.private_elim.proofs.Takes.{local_ground, taken_more, stops_at, joined_back}
 use Rattle.private_elim.proofs.Counts.{degrees_after}
 use Rattle.private_elim.proofs.elimination.Elimination.take.Goals as goal

@@ -1,8 +1,6 @@
-use Rattle.std.proofs.Common.{◌≡◌, ◌≢◌, ℕ, Some, None, ap, sym, ◌∙◌, arith, map, inl, inr, ◌⊎◌}
-use Rattle.std.specs.Prelude.{ℤ, pos, neg_ℤ, ◌≤ℤ◌, IfSome}
+use Rattle.std.proofs.Common.{map, inl, inr}
 use Rattle.std.proofs.lemmas.Bool.{cases_eq}
 use Rattle.dist_rows.specs.Matrix.{cell_at, room-from_cell, within-from_room}
-use Rattle.elim_step.specs.Eliminated.{weight_at}
 use Rattle.elim_step.specs.JoinedPlaces.{is_joined}
 use Rattle.elim_step.proofs.Whole.{none-from}
 use Rattle.stn_model.specs.declared.ids.PointId.{PointId}
