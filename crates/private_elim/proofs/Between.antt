@@ -8,8 +8,8 @@ use Rattle.stn_model.specs.Net.{Net}
 use Rattle.stn_model.specs.Summaries.{Entry, IsSeenPair, IsEntryWeight, IsSummary, entry_weight, is_seen}
 use Rattle.stn_walk.specs.Eliminations.{is_in, before_both}
 use Rattle.elim_step.specs.declared.summary.SummaryEntry.{SummaryEntry}
-use Rattle.elim_step.specs.Eliminated.{forward_of}
-use Rattle.private_elim.specs.Locals.{local_of, arcs_in, point_at, place_in, private_at, passes_at, horizon_in}
+use Rattle.elim_step.specs.Eliminated.{forward_of, point_at}
+use Rattle.private_elim.specs.Locals.{local_of, arcs_in, place_in, private_at, passes_at, horizon_in}
 use Rattle.private_elim.specs.ReducedViews.{ReducedView, IsReduced, entry_of, entry_in, first_there, weight_between}
 use Rattle.private_elim.specs.Taken.{TakenView, HasTaken}
 use Rattle.private_elim.specs.SummaryRows.{is_pair_at, forward_at, entry_at, is_over}

@@ -10,6 +10,7 @@ use Rattle.elim_step.specs.Eliminated.{point_at}
 use Rattle.private_elim.specs.Locals.{LocalView, is_private_in}
 use Rattle.private_elim.specs.Picked.{IsDegree}
 use Rattle.private_elim.specs.Candidates.{is_left, IsCandidate}
+use Rattle.private_elim.proofs.Basics.{all_append}
 
 pub numbers_more : (v : LocalView) (taken : List ℕ) (cs : List Candidate) (c : Candidate) (wanted : Bool) (n : ℕ) → n < length v.points
     → map (λ (c : Candidate). c.number) cs ≡ filter (is_left v taken) (take n v.points) → c.number ≡ point_at v.points n → wanted ≡ is_left v taken (point_at v.points n)
@@ -26,14 +27,10 @@ numbers_more v taken cs c wanted n lt was number is =
       one : (b : Bool) → b ≡ is_left v taken (point_at v.points n) → map (λ (c : Candidate). c.number) (if b then c ∷ [] else []) ≡ filter (is_left v taken) (point_at v.points n ∷ [])
       one b e = picked b ∙ ap (λ b. if b then point_at v.points n ∷ [] else []) e
 
-AllByRecursion-append : {X : Type 0} (P : X → Type 0) (xs ys : List X) → AllByRecursion P xs → AllByRecursion P ys → AllByRecursion P (xs ++ ys)
-AllByRecursion-append P [] ys h g = g
-AllByRecursion-append P (x ∷ xs) ys h g = (h.0, AllByRecursion-append P xs ys h.1 g)
-
 pub degrees_more : (v : LocalView) (taken : List ℕ) (cs : List Candidate) (c : Candidate) (wanted : Bool) (p : ℕ)
     → AllByRecursion (λ (c : Candidate). IsDegree v taken c.number c.degree) cs → IsCandidate v taken p c → wanted ≡ is_left v taken p
     → AllByRecursion (λ (c : Candidate). IsDegree v taken c.number c.degree) (cs ++ (if wanted then c ∷ [] else []))
-degrees_more v taken cs c wanted p was one is = AllByRecursion-append (λ (c : Candidate). IsDegree v taken c.number c.degree) cs (if wanted then c ∷ [] else []) was (by wanted is) where
+degrees_more v taken cs c wanted p was one is = all_append (λ (c : Candidate). IsDegree v taken c.number c.degree) cs (if wanted then c ∷ [] else []) was (by wanted is) where
   left : (a b : Bool) → true ≡ (a && not b) → b ≡ false
   left true true h = absurd (cc)
   left true false h = refl

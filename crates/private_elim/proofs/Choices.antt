@@ -18,6 +18,7 @@ use Rattle.private_elim.specs.Candidates.{is_left}
 use Rattle.private_elim.specs.declared.outcome.PrivateOutcome.{PrivateOutcome}
 use Rattle.private_elim.specs.declared.outcome.PrivateOutcome.TheVariants.{Reduced, Conflict}
 use Rattle.private_elim.specs.Outcomes.{IsNext, IsReducedFrom, IsConflictFrom, IsListedOutcome, IsPickedOutcome, IsReducedWith}
+use Rattle.private_elim.proofs.Basics.{both, turned}
 use Rattle.private_elim.proofs.LocalFacts.{points_small}
 use Rattle.private_elim.proofs.Takes.{order_push}
 use Rattle.private_elim.proofs.Places.{place_found}
@@ -43,14 +44,6 @@ few_taken t h = few_different 4096 t.order h.once (all t.order h.private) where
   all : (xs : List ℕ) → AllByRecursion (λ p. is_private_in t.local p ≡ true) xs → AllByRecursion (λ p. p < 4096) xs
   all [] a = tt
   all (x ∷ xs) a = (private_below t.local h.known x a.0, all xs a.1)
-
-both : (a b : Bool) → (a && b) ≡ true → (a ≡ true) × (b ≡ true)
-both true b h = (refl, h)
-both false b h = absurd (cc)
-
-turned : (b : Bool) → not b ≡ true → b ≡ false
-turned true h = absurd (cc)
-turned false h = refl
 
 -- what a filter lets through passes
 filter_passes : (test : ℕ → Bool) (xs : List ℕ) (k : ℕ) → k < length (filter test xs) → test (get_or (filter test xs) k 0) ≡ true

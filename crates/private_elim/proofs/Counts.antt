@@ -2,17 +2,10 @@
 use Rattle.std.proofs.Common.{zero, suc, ◌≡◌, ◌≢◌, ℕ, ◌+◌, ◌<◌, List, Bool, true, false, ◌&&◌, ◌||◌, not, ap, sym, ◌∙◌, refl, arith, length, get_or, set, take, get_or-set_same, get_or-set_other}
 use Rattle.std.specs.Prelude.{◌==◌, if◌then◌else◌}
 use Rattle.std.proofs.lemmas.Bool.Decides.{nat_tests}
+use Rattle.std.proofs.Math.Bool.{or-true, or-false}
 use Rattle.elim_step.specs.Blocks.{is_in}
 use Rattle.elim_step.specs.Eliminates.{remains, count_below}
 use Rattle.elim_step.proofs.Regions.{front-more}
-
-or-true : (b : Bool) → (b || true) ≡ true
-or-true true = refl
-or-true false = refl
-
-or-false : (b : Bool) → b ≡ (b || false)
-or-false true = refl
-or-false false = refl
 
 -- one place more is counted
 pub recounted : (counts : List ℕ) (places : List ℕ) (n : ℕ) (degree old : ℕ → ℕ) → n < length places → get_or places n 0 < length counts
@@ -29,7 +22,7 @@ recounted counts places n degree old lt low was p =
           written ∙ sym (ap (λ b. if b then degree p else old p) here)
       | false ↦ λ t.
           let apart : p ≢ q = grind (arith, nat_tests) in
-          let same : is_in p (take (n + 1) places) ≡ is_in p (take n places) = sym more ∙ ap (λ b. is_in p (take n places) || b) t ∙ sym (or-false (is_in p (take n places))) in
+          let same : is_in p (take (n + 1) places) ≡ is_in p (take n places) = sym more ∙ ap (λ b. is_in p (take n places) || b) t ∙ or-false (is_in p (take n places)) in
           get_or-set_other counts q p (degree q) 0 apart ∙ was p ∙ sym (ap (λ b. if b then degree p else old p) same)
     ] refl
 

@@ -14,9 +14,10 @@ use Rattle.elim_step.specs.Eliminated.{point_at}
 use Rattle.private_elim.specs.Locals.{LocalView, arcs_in, is_point_of, place_in}
 use Rattle.private_elim.specs.Taken.{IsTaken}
 use Rattle.private_elim.specs.Picked.{IsMet, IsDegree}
+use Rattle.private_elim.proofs.Basics.{both, turned, in_at}
 use Rattle.private_elim.proofs.LocalFacts.{place_of_point_at}
 use Rattle.private_elim.proofs.Places.{place_found}
-use Rattle.private_elim.proofs.Takes.{local_ground, in_at}
+use Rattle.private_elim.proofs.Takes.{local_ground}
 
 -- the points of the places below n that pass
 abbrev pub points_where : List ℕ → (ℕ → Bool) → ℕ → List ℕ
@@ -113,14 +114,6 @@ module _ (points : List ℕ) (apart : (i j : ℕ) → i < length points → j < 
         → length (points_where points test n) + length (if b then point_at points n ∷ [] else []) ≡ (if b then 1 else 0) + count_below test n
     by true e = omega arith
     by false e = omega arith
-
-turned : (b : Bool) → not b ≡ true → b ≡ false
-turned true h = absurd (cc)
-turned false h = refl
-
-both : (a b : Bool) → (a && b) ≡ true → (a ≡ true) × (b ≡ true)
-both true b h = (refl, h)
-both false b h = absurd (cc)
 
 -- the number of places that remain and are joined with a place that is not taken is the degree of its point
 pub degree_is : (v : LocalView) (order : List ℕ) (at : ℕ → ℕ → Option Cell) (joined : ℕ → ℕ → Bool) (remain : List Bool) → IsTaken v order at joined remain

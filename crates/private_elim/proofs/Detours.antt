@@ -13,7 +13,8 @@ use Rattle.stn_model.specs.Kinds.{is_own, is_owned_by}
 use Rattle.stn_model.proofs.NetLemmas.{length-arcs_of}
 use Rattle.stn_model.proofs.ArcLemmas.{upper_arc, lower_arc, arc_even, arc_odd}
 use Rattle.stn_walk.specs.Eliminations.{is_in, before_both}
-use Rattle.private_elim.specs.Locals.{local_of, arcs_in, point_at, horizon_in}
+use Rattle.elim_step.specs.Eliminated.{point_at}
+use Rattle.private_elim.specs.Locals.{local_of, arcs_in, horizon_in}
 use Rattle.private_elim.specs.Taken.{TakenView, HasTaken}
 use Rattle.private_elim.specs.SummaryRows.{is_pair_at, forward_at, is_over}
 use Rattle.private_elim.proofs.Owned.{owned_in}

@@ -12,9 +12,9 @@ use Rattle.dist_rows.specs.declared.cell.Cell.{Cell}
 use Rattle.dist_rows.specs.Cells.{lesser, lowered}
 use Rattle.elim_step.specs.declared.summary.SummaryEntry.{SummaryEntry}
 use Rattle.elim_step.specs.Summaries.{is_valid, is_less, may_follow, may_all_follow, is_summary}
-use Rattle.elim_step.specs.Eliminated.{weight_at}
+use Rattle.elim_step.specs.Eliminated.{weight_at, point_at}
 use Rattle.elim_step.proofs.FinalWeights.{IsApart}
-use Rattle.private_elim.specs.Locals.{LocalView, IsLocal, point_at}
+use Rattle.private_elim.specs.Locals.{LocalView, IsLocal}
 use Rattle.private_elim.specs.ReducedViews.{entry_in, first_there}
 use Rattle.private_elim.specs.Sweeps.{IsSeenPlaces, HasGiven}
 use Rattle.private_elim.proofs.Takes.{local_ground}

@@ -3,8 +3,8 @@ use Rattle.std.proofs.Common.{◌≡◌, ◌≢◌, ℕ, ◌<◌, Option, Some, 
 use Rattle.std.specs.Prelude.{ℤ}
 use Rattle.stn_model.specs.Inner.{IsInnerWeight}
 use Rattle.stn_walk.specs.Eliminations.{is_in, before_both}
-use Rattle.elim_step.specs.Eliminated.{forward_of}
-use Rattle.private_elim.specs.Locals.{LocalView, arcs_in, point_at, place_in}
+use Rattle.elim_step.specs.Eliminated.{forward_of, point_at}
+use Rattle.private_elim.specs.Locals.{LocalView, arcs_in, place_in}
 use Rattle.private_elim.specs.Taken.{TakenView, HasTaken}
 use Rattle.private_elim.proofs.Places.{place_found}
 use Rattle.private_elim.proofs.TakenFacts.{forward_least, inner_weight, none_from_strange, none_to_strange}

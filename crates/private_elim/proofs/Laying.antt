@@ -19,6 +19,7 @@ use Rattle.private_elim.specs.Locals.{LocalView, IsLocal, arcs_in, local_arc_at,
 use Rattle.private_elim.specs.Origins.{IsArcOf}
 use Rattle.private_elim.specs.Laid.{IsLaid, IsLaidArc}
 use Rattle.private_elim.specs.Taken.{IsTaken}
+use Rattle.private_elim.proofs.Basics.{both}
 use Rattle.private_elim.proofs.LocalFacts.{arc_joins, arc_in_at}
 use Rattle.private_elim.proofs.Places.{place_found, place_missing, place_contained}
 use Rattle.private_elim.proofs.OriginFacts.{origins_start}
@@ -146,10 +147,6 @@ and-turned true false = refl
 and-turned false true = refl
 and-turned false false = refl
 
-both-true : (a b : Bool) → (a && b) ≡ true → (a ≡ true) × (b ≡ true)
-both-true true b h = (refl, h)
-both-true false b h = absurd (cc)
-
 module _ (v : LocalView) (h : IsLocal v) (n : ℕ) (lt : n < length v.arcs) (at after : ℕ → ℕ → Option Cell) (joined joined' : ℕ → ℕ → Bool) (was : IsLaid v n at joined) (arc : IsLaidArc v n at after joined joined') where
   many : length (arcs_in v) ≡ length v.arcs
   many = length-map v.arcs (λ a. a.arc)
@@ -183,7 +180,7 @@ module _ (v : LocalView) (h : IsLocal v) (n : ℕ) (lt : n < length v.arcs) (at 
       let low : weight_at (cells.lowered arc.start arc.end c at i j) ≡ (if goes a x y then lesser (bound_of (take n (arcs_in v)) x y) (Some a.bound) else bound_of (take n (arcs_in v)) x y) =
       elim ((i == arc.start) && (j == arc.end)) as (λ b. ((i == arc.start) && (j == arc.end)) ≡ b → weight_at (if b then cells.lesser (at arc.start arc.end) c else at i j) ≡ (if b then lesser (bound_of (take n (arcs_in v)) x y) (Some a.bound) else bound_of (take n (arcs_in v)) x y)) [
         | true ↦ λ t.
-            let p = both-true (i == arc.start) (j == arc.end) t in
+            let p = both (i == arc.start) (j == arc.end) t in
             let ei : i ≡ arc.start = (let e = p.0 in grind (arith, nat_tests)) in
             let ej : j ≡ arc.end = (let e = p.1 in grind (arith, nat_tests)) in
             lesser-weight (at arc.start arc.end) c ∙ ap (λ o. lesser o (Some a.bound)) ((λ t. weight_at (at (sym ei t) (sym ej t))) ∙ old)
@@ -223,7 +220,7 @@ module _ (v : LocalView) (h : IsLocal v) (n : ℕ) (lt : n < length v.arcs) (at 
       rw (arc.cells p q) (elim ((p == arc.start) && (q == arc.end)) as (λ b. ((p == arc.start) && (q == arc.end)) ≡ b
       → IfSome (if b then cells.lesser (at arc.start arc.end) c else at p q) (λ c. (m : ℕ) × (c.via ≡ Given m) × IsArcOf v.points (arcs_in v) p q c m)) [
         | true ↦ λ t.
-            let b = both-true (p == arc.start) (q == arc.end) t in
+            let b = both (p == arc.start) (q == arc.end) t in
             let ep : p ≡ arc.start = (let e = b.0 in grind (arith, nat_tests)) in
             let eq : q ≡ arc.end = (let e = b.1 in grind (arith, nat_tests)) in
             rw (ep, eq) (laid_origin (at arc.start arc.end) c refl refl (was.origins arc.start arc.end))

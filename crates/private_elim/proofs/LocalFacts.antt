@@ -14,8 +14,9 @@ use Rattle.stn_model.specs.Kinds.{is_shared, is_owned_by, is_own, is_private_of}
 use Rattle.stn_model.specs.Conflicts.{own_arcs}
 use Rattle.stn_model.specs.Summaries.{is_seen}
 use Rattle.stn_model.proofs.ArcLemmas.{upper_arc, lower_arc}
+use Rattle.elim_step.specs.Eliminated.{point_at}
 use Rattle.private_elim.specs.declared.local.LocalArc.{LocalArc}
-use Rattle.private_elim.specs.Locals.{LocalView, IsLocal, IsAdded, local_of, points_of, numbered_own, point_at, place_in, is_private_in, is_seen_in, arcs_in, horizon_in, all_numbered, local_arc_at, no_local_arc}
+use Rattle.private_elim.specs.Locals.{LocalView, IsLocal, IsAdded, local_of, points_of, numbered_own, place_in, is_private_in, is_seen_in, arcs_in, horizon_in, all_numbered, local_arc_at, no_local_arc}
 use Rattle.private_elim.proofs.Places.{Rises, place_of_point}
 use Rattle.private_elim.proofs.Owned.{points_rise, points_below, points_few}
 use Rattle.private_elim.proofs.OwnArcs.{IsNumbered, NumbersRise, numbered_arc, own_each, numbers_rise, numbered_plain}

@@ -17,6 +17,7 @@ use Rattle.stn_model.proofs.Bridges.{arcs_weight-map}
 use Rattle.stn_walk.specs.Eliminations.{is_in}
 use Rattle.stn_walk.proofs.Visits.{inner_in}
 use Rattle.private_elim.specs.Locals.{LocalView, local_of, numbered_own, arcs_in, is_private_in}
+use Rattle.private_elim.proofs.Basics.{all_append}
 use Rattle.private_elim.proofs.OwnArcs.{numbered_arc, numbered_plain, own_contained}
 use Rattle.private_elim.proofs.ButOne.{fails_once, fails_more, all_pass}
 use Rattle.private_elim.proofs.Parts.{Contains-map}
@@ -26,11 +27,6 @@ use Rattle.private_elim.proofs.LocalFacts.{arcs_of_net, private_of_net}
 three_parts : (P : ℕ → Type 0) (front back : List ℕ) (n : ℕ) → AllByRecursion P (front ++ n ∷ back) → AllByRecursion P front × P n × AllByRecursion P back
 three_parts P [] back n h = (tt, h.0, h.1)
 three_parts P (m ∷ front) back n h = let rest = three_parts P front back n h.1 in ((h.0, rest.0), rest.1, rest.2)
-
--- one list after another
-both_all : (P : ℕ → Type 0) (xs ys : List ℕ) → AllByRecursion P xs → AllByRecursion P ys → AllByRecursion P (xs ++ ys)
-both_all P [] ys h g = g
-both_all P (x ∷ xs) ys h g = (h.0, both_all P xs ys h.1 g)
 
 -- a list of arcs of which all but one end at points that pass the test
 record IsAllButOne (passes : ℕ → Bool) (arcs : List Constraint) (ns : List ℕ) : Type 0 where
@@ -103,10 +99,10 @@ module _ (net : Net) (agent : ℕ) where
       let rest = IsWalk-back arcs start start s.front (s.arc ∷ s.back) whole in
       let turned = IsWalk-append arcs turn meets turn (s.back ++ s.front) (s.arc ∷ [])
       (IsWalk-append arcs turn start meets s.back s.front rest.2 front) (rest.0, rest.1, refl) in
-      let all_listed = both_all (λ n. Contains own (arc_at arcs n)) (s.back ++ s.front) (s.arc ∷ [])
-      (both_all (λ n. Contains own (arc_at arcs n)) s.back s.front listed.2 listed.0) (listed.1, tt) in
+      let all_listed = all_append (λ n. Contains own (arc_at arcs n)) (s.back ++ s.front) (s.arc ∷ [])
+      (all_append (λ n. Contains own (arc_at arcs n)) s.back s.front listed.2 listed.0) (listed.1, tt) in
       let passing = subst (AllByRecursion (λ p. passes p ≡ true)) (sym (map-append (to_at arcs) s.back s.front))
-      (both_all (λ p. passes p ≡ true) (heads arcs s.back) (heads arcs s.front) s.after s.before) in
+      (all_append (λ p. passes p ≡ true) (heads arcs s.back) (heads arcs s.front) s.after s.before) in
       let light = none_below turn (map (arc_at arcs) (s.back ++ s.front ++ s.arc ∷ [])) (inner_passing passes arcs own turn turn (s.back ++ s.front) s.arc turned all_listed passing) in
       let sum = arcs_weight-map arcs (s.back ++ s.front ++ s.arc ∷ []) in
       let last = weight-append arcs (s.back ++ s.front) (s.arc ∷ []) in

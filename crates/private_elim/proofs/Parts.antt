@@ -13,8 +13,9 @@ use Rattle.stn_model.specs.Kinds.{is_shared, is_owned_by, is_own, is_private_of}
 use Rattle.stn_model.specs.Summaries.{is_seen}
 use Rattle.stn_model.proofs.NetLemmas.{length-arcs_of}
 use Rattle.stn_model.proofs.ArcLemmas.{upper_arc, lower_arc, arc_even, arc_odd, arcs_within}
+use Rattle.elim_step.specs.Eliminated.{point_at}
 use Rattle.private_elim.specs.declared.local.LocalArc.{LocalArc}
-use Rattle.private_elim.specs.Locals.{LocalView, IsLocal, IsAdded, local_of, points_of, owned_below, numbered_own, point_at, place_in, private_at, passes_at, is_private_in, is_seen_in, arcs_in, horizon_in, local_arc_at, no_local_arc}
+use Rattle.private_elim.specs.Locals.{LocalView, IsLocal, IsAdded, local_of, points_of, owned_below, numbered_own, place_in, private_at, passes_at, is_private_in, is_seen_in, arcs_in, horizon_in, local_arc_at, no_local_arc}
 use Rattle.private_elim.proofs.Places.{place_found, place_missing, place_contained}
 use Rattle.private_elim.proofs.Owned.{owned_in, owned_each, owned_contained}
 use Rattle.private_elim.proofs.OwnArcs.{IsNumbered, numbered_arc, own_each, own_contained, numbers_rise}

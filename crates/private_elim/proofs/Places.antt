@@ -4,7 +4,8 @@ use Rattle.std.specs.List.{All, Contains}
 use Rattle.std.specs.Option.{option_map}
 use Rattle.std.proofs.lemmas.List.{get_or_append_left, get_or_push, length_push, get_or_default}
 use Rattle.std.proofs.lemmas.Bool.{cases_lt, eqb-true, eqb-false, eq-eqb, ne_eqb}
-use Rattle.private_elim.specs.Locals.{point_at, place_in}
+use Rattle.elim_step.specs.Eliminated.{point_at}
+use Rattle.private_elim.specs.Locals.{place_in}
 
 -- each number is less than every later one
 abbrev pub Rises : List ℕ → Type 0

@@ -8,7 +8,8 @@ use Rattle.stn_model.specs.Arcs.{to_at}
 use Rattle.stn_model.specs.Net.{arcs_of}
 use Rattle.stn_model.specs.Walks.{IsWalk, weight}
 use Rattle.elim_step.specs.declared.summary.SummaryEntry.{SummaryEntry}
-use Rattle.private_elim.specs.Locals.{LocalView, arcs_in, point_at, place_in, horizon_in}
+use Rattle.elim_step.specs.Eliminated.{point_at}
+use Rattle.private_elim.specs.Locals.{LocalView, arcs_in, place_in, horizon_in}
 use Rattle.private_elim.specs.ReducedViews.{ReducedView, IsReduced, weight_between}
 use Rattle.private_elim.specs.Reductions.{OfNetwork, AreOwn}
 use Rattle.private_elim.specs.Taken.{TakenView, HasTaken}

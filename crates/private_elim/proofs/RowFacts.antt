@@ -9,7 +9,8 @@ use Rattle.std.proofs.lemmas.List.Elements.{All-nil, All-head, All-tail, All-pus
 use Rattle.std.proofs.lemmas.List.Quantifiers.{all_pairs_push}
 use Rattle.elim_step.specs.declared.summary.SummaryEntry.{SummaryEntry}
 use Rattle.elim_step.specs.Summaries.{is_valid, is_less, may_all_follow, is_summary}
-use Rattle.private_elim.specs.Locals.{point_at, private_at}
+use Rattle.elim_step.specs.Eliminated.{point_at}
+use Rattle.private_elim.specs.Locals.{private_at}
 use Rattle.private_elim.specs.Taken.{TakenView}
 use Rattle.private_elim.specs.SummaryRows.{is_pair_at, joined_at, entry_at, pair_entries, row_below, rows_below}
 use Rattle.private_elim.proofs.Places.{Rises}

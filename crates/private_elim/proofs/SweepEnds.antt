@@ -24,9 +24,9 @@ use Rattle.dist_rows.specs.Matrix.{cell_at}
 use Rattle.elim_step.specs.declared.summary.SummaryEntry.{SummaryEntry}
 use Rattle.elim_step.specs.Summaries.{is_summary}
 use Rattle.elim_step.specs.Eliminates.{remains}
-use Rattle.elim_step.specs.Eliminated.{weight_at}
+use Rattle.elim_step.specs.Eliminated.{weight_at, point_at}
 use Rattle.private_elim.specs.declared.back.PrivateBounds.{PrivateBounds}
-use Rattle.private_elim.specs.Locals.{LocalView, local_of, arcs_in, point_at, place_in, private_at, passes_at, is_private_in}
+use Rattle.private_elim.specs.Locals.{LocalView, local_of, arcs_in, place_in, private_at, passes_at, is_private_in}
 use Rattle.private_elim.specs.Taken.{IsTaken}
 use Rattle.private_elim.specs.ReducedViews.{entry_in}
 use Rattle.private_elim.specs.Backs.{bound_at, bound_between, IsPrivatePair, HoldsFinals, IsLeastIn}

@@ -17,9 +17,9 @@ use Rattle.stn_walk.proofs.Eliminations.{cell-least}
 use Rattle.stn_walk.proofs.Joins.{is_in-reverse, joined-symmetric, joined-from_walk, joined-from_order, order-from_joined}
 use Rattle.stn_walk.proofs.Visits.{inner_in}
 use Rattle.dist_rows.specs.declared.cell.Cell.{Cell}
-use Rattle.elim_step.specs.Eliminated.{weight_at, forward_of}
+use Rattle.elim_step.specs.Eliminated.{weight_at, forward_of, point_at}
 use Rattle.elim_step.proofs.FinalWeights.{IsApart}
-use Rattle.private_elim.specs.Locals.{LocalView, arcs_in, point_at, is_private_in}
+use Rattle.private_elim.specs.Locals.{LocalView, arcs_in, is_private_in}
 use Rattle.private_elim.specs.Taken.{IsTaken}
 use Rattle.private_elim.proofs.TakenFacts.{taken_private, forward_light}
 use Rattle.private_elim.proofs.Takes.{local_ground, facts}

@@ -13,8 +13,9 @@ use Rattle.elim_step.specs.Eliminates.{remains}
 use Rattle.elim_step.specs.JoinedPlaces.{is_joined}
 use Rattle.elim_step.specs.Revisits.{names_once, Revisits}
 use Rattle.elim_step.proofs.JoinFacts.{names_once-from_rising}
+use Rattle.elim_step.specs.Eliminated.{point_at}
 use Rattle.private_elim.specs.declared.elimination.Elimination.TheInside.{Inside}
-use Rattle.private_elim.specs.Locals.{point_at, private_at, is_private_in}
+use Rattle.private_elim.specs.Locals.{private_at, is_private_in}
 use Rattle.private_elim.specs.Underway.{IsUnderway}
 use Rattle.private_elim.specs.Sweeps.{HasGiven, IsSwept}
 use Rattle.private_elim.proofs.Bounds.{room-between}

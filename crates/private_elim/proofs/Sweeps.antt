@@ -24,10 +24,10 @@ use Rattle.dist_rows.specs.Cells.{IsLight, AllLight}
 use Rattle.elim_step.specs.Blocks as blocks
 use Rattle.elim_step.specs.declared.summary.SummaryEntry.{SummaryEntry}
 use Rattle.elim_step.specs.Eliminates.{remains, sum_through}
-use Rattle.elim_step.specs.Eliminated.{weight_at}
+use Rattle.elim_step.specs.Eliminated.{weight_at, point_at}
 use Rattle.elim_step.specs.Revisits.{reach_of, out_sum, in_sum, IsLeastSum, Revisits}
 use Rattle.elim_step.proofs.FinalWeights.{Prepared, finals_are_least}
-use Rattle.private_elim.specs.Locals.{LocalView, local_of, arcs_in, point_at, private_at, is_private_in}
+use Rattle.private_elim.specs.Locals.{LocalView, local_of, arcs_in, private_at, is_private_in}
 use Rattle.private_elim.specs.Taken.{IsTaken}
 use Rattle.private_elim.specs.Backs.{HoldsFinals}
 use Rattle.private_elim.specs.Sweeps.{IsSwept}

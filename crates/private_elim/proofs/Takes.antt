@@ -1,7 +1,6 @@
 -- Taking one private point: what is known stays known, and a point that fails does so as the definition says.
-use Rattle.std.proofs.Common.{zero, suc, ◌≡◌, ◌≢◌, ℕ, ◌<◌, ◌≤◌, List, [], ◌∷◌, ◌++◌, Bool, true, false, ◌&&◌, ◌||◌, not, Option, Some, None, ap, sym, ◌∙◌, refl, arith, subst, length, get_or, set, inl, inr, ◌⊎◌}
+use Rattle.std.proofs.Common.{zero, suc, ◌≡◌, ◌≢◌, ℕ, ◌<◌, ◌≤◌, List, [], ◌∷◌, ◌++◌, Bool, true, false, ◌&&◌, ◌||◌, not, Option, Some, None, ap, sym, ◌∙◌, refl, arith, subst, length, get_or, set, inl, inr}
 use Rattle.std.specs.Prelude.{ℤ, pos, neg_ℤ, ◌+ℤ◌, ◌≤ℤ◌, ◌<ℤ◌, ◌==◌, if◌then◌else◌, is_some, reverse, IfSome, nat_abs, ◌*◌}
-use Rattle.std.specs.List.{AllByRecursion}
 use Rattle.std.proofs.lemmas.Bool.Decides.{nat_tests}
 use Rattle.std.proofs.lemmas.Int.{ints}
 use Rattle.std.proofs.lemmas.List.{reverse-append}
@@ -23,16 +22,10 @@ use Rattle.elim_step.proofs.Sound.{eliminates_more}
 use Rattle.elim_step.proofs.JoinFacts.{joined-after}
 use Rattle.private_elim.specs.Locals.{LocalView, IsLocal, arcs_in, is_private_in, is_point_of, place_in, private_at, passes_at}
 use Rattle.private_elim.specs.Taken.{IsTaken, Fails, StopsAt, NoneFails, HasTaken}
+use Rattle.private_elim.proofs.Basics.{both, turned, order_of, in_at, all_append}
 use Rattle.private_elim.proofs.LocalFacts.{rises, points_small, arc_joins, place_of_point_at}
 use Rattle.private_elim.proofs.Places.{place_contained, place_found}
 use Rattle.private_elim.proofs.OriginFacts.{origins_kept}
-
--- a number is below another, or is it, or is above
-order_of : (a b : ℕ) → (a < b) ⊎ ((a ≡ b) ⊎ (b < a))
-order_of zero zero = inr (inl refl)
-order_of zero (suc b) = inl (omega arith)
-order_of (suc a) zero = inr (inr (omega arith))
-order_of (suc a) (suc b) = elim (order_of a b) [ inl l ↦ inl (omega arith) | inr r ↦ elim r [ inl e ↦ inr (inl (ap suc e)) | inr m ↦ inr (inr (omega arith)) ] ]
 
 -- two places with the same point are one
 rising_apart : (points : List ℕ) → ((i j : ℕ) → i < j → j < length points → point_at points i < point_at points j) → (i j : ℕ) → i < length points → j < length points
@@ -52,19 +45,6 @@ local_ground v h = record {
   light = λ a here. let j = arc_joins v h a here in let low = j.low in let high = j.high in (omega (arith, ints), omega (arith, ints));
 }
 
--- a list with one item more
-AllByRecursion-push : {X : Type 0} (P : X → Type 0) (xs : List X) (x : X) → AllByRecursion P xs → P x → AllByRecursion P (xs ++ x ∷ [])
-AllByRecursion-push P [] x h p = (p, tt)
-AllByRecursion-push P (y ∷ ys) x h p = (h.0, AllByRecursion-push P ys x h.1 p)
-
-pub in_at : (xs : List ℕ) (k : ℕ) → k < length xs → is_in xs (get_or xs k 0) ≡ true
-in_at [] k lt = absurd (omega arith)
-in_at (x ∷ xs) zero lt = let same : (x == x) ≡ true = grind (arith, nat_tests) in ap (λ b. is_in xs x || b) same ∙ or_true (is_in xs x) where
-  or_true : (b : Bool) → (b || true) ≡ true
-  or_true true = refl
-  or_true false = refl
-in_at (x ∷ xs) (suc k) lt = let here = in_at xs k (omega arith) in ap (λ b. b || (get_or xs k 0 == x)) here
-
 pub order_push : (order : List ℕ) (p : ℕ) → reverse (order ++ p ∷ []) ≡ p ∷ reverse order
 order_push order p = reverse-append order (p ∷ [])
 
@@ -81,7 +61,7 @@ taken_more v order at after joined joined' remain k h lk private fresh clear cha
     record {
       known = h.known;
       numbered = h.numbered;
-      private = AllByRecursion-push (λ p. is_private_in v p ≡ true) order x h.private private;
+      private = all_append (λ p. is_private_in v p ≡ true) order (x ∷ []) h.private (private, tt);
       once = AllDifferent-push order x h.once (λ m lm e. absurd (let there = in_at order m lm in let turn = is_in-reverse order x in let f : is_in order (get_or order m 0) ≡ is_in order x = ap (is_in order) e in cc));
       cells = rw turned (eliminates_more v.points (arcs_in v) ground (reverse order) at remain h.cells k lk fresh after changed clear);
       origins = rw turned (origins_kept v.points (arcs_in v) (reverse order) at after remain k lk fresh h.cells.remaining h.origins changed);
@@ -119,18 +99,10 @@ are_below None y h = absurd (cc)
 are_below (Some a) None h = absurd (cc)
 are_below (Some a) (Some b) h = record { first = a; second = b; is_first = refl; is_second = refl; below = grind (arith, ints) }
 
-both : (a b : Bool) → (a && b) ≡ true → (a ≡ true) × (b ≡ true)
-both true b h = (refl, h)
-both false b h = absurd (cc)
-
 pub in_list : (xs : List Bool) (p : ℕ) → get_or xs p false ≡ true → p < length xs
 in_list [] p h = absurd (cc)
 in_list (x ∷ xs) zero h = omega arith
 in_list (x ∷ xs) (suc p) h = let l = in_list xs p h in omega arith
-
-turned : (b : Bool) → not b ≡ true → b ≡ false
-turned true h = absurd (cc)
-turned false h = refl
 
 module _ (v : LocalView) (order : List ℕ) (at : ℕ → ℕ → Option Cell) (joined : ℕ → ℕ → Bool) (remain : List Bool) (h : IsTaken v order at joined remain) where
   es : List ℕ

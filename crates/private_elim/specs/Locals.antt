@@ -1,5 +1,5 @@
 -- What contracts see of an agent's own part of a network (its local problem: Boerkoel and Durfee 2013): LocalView, owned_below,
--- own_below, points_of, numbered_own, local_from, local_of, window_arcs, IsAdded, IsLocal, arcs_in, all_numbered, point_at, place_in,
+-- own_below, points_of, numbered_own, local_from, local_of, window_arcs, IsAdded, IsLocal, arcs_in, all_numbered, place_in,
 -- private_at, is_private_in, is_seen_in, is_point_of, horizon_in, no_local_arc, local_arc_at, IsWindow, IsWindowOf.
 use Rattle.std.specs.Prelude.{◌≡◌, ◌≢◌, ℕ, zero, suc, ◌+◌, ◌<◌, ℤ, pos, neg_ℤ, ◌≤ℤ◌, List, [], ◌∷◌, ◌++◌, map, length, Bool, true, false, ◌&&◌, not, ◌==◌, Option, Some, None, is_some, slice_index_or, if◌then◌else◌, Contains}
 use Rattle.std.specs.List.{All, list_all}
@@ -81,10 +81,6 @@ arcs_in v = map (λ a. a.arc) v.arcs
 -- whether each of the arcs has a number
 abbrev pub all_numbered : List LocalArc → Bool
 all_numbered arcs = list_all (λ a. is_some a.number) arcs
-
--- the point at a place
-abbrev pub point_at : List ℕ → ℕ → ℕ
-point_at points k = slice_index_or points k 0
 
 -- the place of a point
 abbrev pub place_in : List ℕ → ℕ → Option ℕ

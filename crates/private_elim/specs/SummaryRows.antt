@@ -4,9 +4,9 @@ use Rattle.std.specs.Prelude.{ℕ, zero, suc, ℤ, int_lt, List, [], ◌∷◌, 
 use Rattle.stn_model.specs.Summaries.{entry_weight}
 use Rattle.stn_walk.specs.Eliminations.{before_both}
 use Rattle.stn_walk.specs.Joins.{joined_of}
-use Rattle.elim_step.specs.Eliminated.{forward_of}
+use Rattle.elim_step.specs.Eliminated.{forward_of, point_at}
 use Rattle.elim_step.specs.declared.summary.SummaryEntry.{SummaryEntry}
-use Rattle.private_elim.specs.Locals.{arcs_in, point_at, private_at, horizon_in}
+use Rattle.private_elim.specs.Locals.{arcs_in, private_at, horizon_in}
 use Rattle.private_elim.specs.Taken.{TakenView}
 
 -- the forward weight between two places

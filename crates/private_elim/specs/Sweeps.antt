@@ -7,8 +7,8 @@ use Rattle.stn_walk.specs.Eliminations.{is_in}
 use Rattle.dist_rows.specs.declared.cell.Cell.{Cell}
 use Rattle.elim_step.specs.declared.summary.SummaryEntry.{SummaryEntry}
 use Rattle.elim_step.specs.Eliminates.{remains}
-use Rattle.elim_step.specs.Eliminated.{weight_at}
-use Rattle.private_elim.specs.Locals.{LocalView, arcs_in, point_at, private_at}
+use Rattle.elim_step.specs.Eliminated.{weight_at, point_at}
+use Rattle.private_elim.specs.Locals.{LocalView, arcs_in, private_at}
 use Rattle.private_elim.specs.ReducedViews.{entry_in}
 use Rattle.private_elim.specs.Reductions.{OfNetwork}
 use Rattle.private_elim.specs.Backs.{HoldsFinals}

@@ -3,7 +3,8 @@ ghost use Rattle.std.specs.Prelude.{◌≡◌, ℕ, ◌+◌, ◌<◌, true, IfOk
 ghost use Rattle.stn_walk.specs.Eliminations.{is_in};
 ghost use Rattle.dist_rows.specs.Matrix.{cell_at};
 ghost use Rattle.elim_step.specs.declared.summary.SummaryEntry.{SummaryEntry};
-ghost use Rattle.private_elim.specs.Locals.{is_private_in, point_at};
+ghost use Rattle.elim_step.specs.Eliminated.{point_at};
+ghost use Rattle.private_elim.specs.Locals.{is_private_in};
 ghost use Rattle.private_elim.specs.Backs.{bound_between, IsPrivatePair, HoldsFinals, IsLeastIn};
 ghost use Rattle.private_elim.specs.Reductions.{OfNetwork};
 ghost use Rattle.private_elim.specs.Sweeps.{IsSwept};

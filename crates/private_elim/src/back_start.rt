@@ -3,7 +3,8 @@ ghost use Rattle.std.specs.Prelude.{◌≡◌, ◌≢◌, ℕ, ◌+◌, ◌<◌,
 ghost use Rattle.std.specs.List.{AllPairs};
 ghost use Rattle.dist_rows.specs.Matrix.{cell_at};
 ghost use Rattle.elim_step.specs.Summaries.{is_summary};
-ghost use Rattle.private_elim.specs.Locals.{IsLocal, point_at, private_at};
+ghost use Rattle.elim_step.specs.Eliminated.{point_at};
+ghost use Rattle.private_elim.specs.Locals.{IsLocal, private_at};
 ghost use Rattle.private_elim.specs.Sweeps.{HasGiven};
 
 use crate::local::Local;

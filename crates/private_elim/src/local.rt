@@ -4,7 +4,8 @@ ghost use Rattle.std.specs.List.{All};
 ghost use Rattle.stn_model.specs.Net.{point_count};
 ghost use Rattle.stn_model.specs.Valid.{IsNetwork};
 ghost use Rattle.stn_model.specs.Kinds.{is_shared, is_owned_by, is_own};
-ghost use Rattle.private_elim.specs.Locals.{local_of, points_of, numbered_own, window_arcs, IsLocal, place_in, point_at, private_at, horizon_in, local_arc_at, IsWindowOf, IsWindow};
+ghost use Rattle.elim_step.specs.Eliminated.{point_at};
+ghost use Rattle.private_elim.specs.Locals.{local_of, points_of, numbered_own, window_arcs, IsLocal, place_in, private_at, horizon_in, local_arc_at, IsWindowOf, IsWindow};
 
 use elim_step::Window;
 use std::alloc::Global;

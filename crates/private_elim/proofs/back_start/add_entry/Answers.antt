@@ -4,7 +4,7 @@ use Rattle.std.proofs.lemmas.Int.{ints}
 use Rattle.std.proofs.lemmas.List.{get_or_default}
 use Rattle.elim_step.specs.declared.summary.SummaryEntry.{SummaryEntry}
 use Rattle.elim_step.specs.Summaries.{is_valid}
-use Rattle.private_elim.specs.Locals.{point_at}
+use Rattle.elim_step.specs.Eliminated.{point_at}
 use Rattle.private_elim.proofs.Bounds.{room-between}
 use Rattle.private_elim.proofs.Entries.{valid_at, valid_light, valid_differ, given_same, given_more}
 use Rattle.private_elim.proofs.back_start.add_entry.Goals as goal

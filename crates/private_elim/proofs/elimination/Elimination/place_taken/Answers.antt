@@ -4,7 +4,8 @@ use Rattle.std.proofs.lemmas.Bool.{false≢true}
 use Rattle.std.proofs.lemmas.List.{length-map, get_or-map}
 use Rattle.std.proofs.lemmas.List.Elements.{All-from_recursion}
 use Rattle.stn_model.specs.declared.ids.PointId.{PointId}
-use Rattle.private_elim.specs.Locals.{LocalView, point_at, private_at, passes_at, is_private_in}
+use Rattle.elim_step.specs.Eliminated.{point_at}
+use Rattle.private_elim.specs.Locals.{LocalView, private_at, passes_at, is_private_in}
 use Rattle.private_elim.proofs.Places.{place_found}
 use Rattle.private_elim.proofs.elimination.Elimination.place_taken.Goals as goal
 

@@ -1,6 +1,6 @@
 use Rattle.std.proofs.Common.{sym, ap, ◌∙◌, map, subst}
+use Rattle.elim_step.specs.Eliminated.{point_at}
 use Rattle.private_elim.specs.Numbers.{number_in}
-use Rattle.private_elim.specs.Locals.{point_at}
 use Rattle.private_elim.proofs.ReducedWalks.{IsWalkOf, places_within, starts_somewhere, ends_somewhere, both_within, both_apart, start_range, end_range, by_detour, weight_there, by_cell}
 use Rattle.private_elim.proofs.reduced.Reduced.walk.Goals as goal
 
