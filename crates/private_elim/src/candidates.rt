@@ -7,22 +7,9 @@ ghost use Rattle.private_elim.specs.Picked.{AreCandidates};
 ghost use Rattle.private_elim.specs.Candidates.{IsCandidate, is_left};
 
 use crate::elimination::Elimination;
+use crate::lists::push_where;
 use elim_step::Candidate;
 use stn_model::OutOfMemory;
-
-// Puts a candidate at the end of a list where it is wanted.
-fn push_where(
-    candidates: &mut Vec<Candidate>,
-    candidate: Candidate,
-    wanted: bool,
-) -> Result<(), OutOfMemory>
-    ensures { IfOk result (λ _. candidates.new.items ≡ candidates.old.items ++ (if wanted then candidate ∷ [] else [])) }
-{
-    if wanted {
-        candidates.push(candidate)?;
-    }
-    Ok(())
-}
 
 impl Elimination {
     /// Whether the point at a place is private and not taken.

@@ -10,6 +10,7 @@ mod conflict;
 pub mod eliminate;
 mod elimination;
 pub mod laws;
+mod lists;
 pub mod local;
 mod numbers;
 pub mod outcome;

@@ -7,6 +7,7 @@ ghost use Rattle.stn_model.specs.Kinds.{is_shared, is_owned_by, is_own};
 ghost use Rattle.elim_step.specs.Eliminated.{point_at};
 ghost use Rattle.private_elim.specs.Locals.{local_of, points_of, numbered_own, window_arcs, IsLocal, place_in, private_at, horizon_in, local_arc_at, IsWindowOf, IsWindow};
 
+use crate::lists::push_where;
 use elim_step::Window;
 use std::alloc::Global;
 use std::marker::Model;
@@ -217,16 +218,6 @@ fn own_arcs(alloc: Global, net: &Network, agent: AgentId) -> Result<Vec<LocalArc
         push_where(&mut arcs, numbered, is_own(net, agent, arc))?;
     }
     Ok(arcs)
-}
-
-// Adds an item that is wanted.
-fn push_where<T: Copy>(items: &mut Vec<T>, item: T, wanted: bool) -> Result<(), OutOfMemory>
-    ensures { IfOk result (λ _. items.new.items ≡ items.old.items ++ (if wanted then item ∷ [] else [])) }
-{
-    if wanted {
-        items.push(item)?;
-    }
-    Ok(())
 }
 
 // Whether the point is the agent's.
