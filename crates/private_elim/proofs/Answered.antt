@@ -6,6 +6,7 @@ use Rattle.stn_model.specs.Walks.{AllDifferent, IsNormal}
 use Rattle.stn_model.specs.Conflicts.{IsOwnConflict}
 use Rattle.stn_model.specs.Summaries.{IsSummary}
 use Rattle.stn_walk.specs.Eliminations.{is_in}
+use Rattle.stn_walk.proofs.Joins.{is_in-reverse}
 use Rattle.private_elim.specs.declared.outcome.PrivateOutcome.{PrivateOutcome}
 use Rattle.private_elim.specs.declared.outcome.PrivateOutcome.TheVariants.{Reduced, Conflict}
 use Rattle.private_elim.specs.Locals.{LocalView, is_private_in, local_of}
@@ -60,8 +61,8 @@ pub once_is : (v : LocalView) (o : PrivateOutcome) → IsSound v o → IfReduced
 once_is v (Reduced r) h = h.once
 once_is v (Conflict walk place other) h = tt
 
-pub whole_is : (v : LocalView) (o : PrivateOutcome) → IsSound v o → IfReduced (λ r. (p : ℕ) → is_private_in v p ≡ true → is_in (reverse r.order) p ≡ true) o
-whole_is v (Reduced r) h = λ p private. h.reduced.whole p (ap (λ (w : LocalView). is_private_in w p) h.local ∙ private)
+pub whole_is : (v : LocalView) (o : PrivateOutcome) → IsSound v o → IfReduced (λ r. (p : ℕ) → is_private_in v p ≡ true → is_in r.order p ≡ true) o
+whole_is v (Reduced r) h = λ p private. sym (is_in-reverse r.order p) ∙ h.reduced.whole p (ap (λ (w : LocalView). is_private_in w p) h.local ∙ private)
 whole_is v (Conflict walk place other) h = tt
 
 pub summary_is : (v : LocalView) (o : PrivateOutcome) → IsSound v o → IfReduced (λ r. OfNetwork v (λ net. IsSummary net v.agent (map entry_of r.summary))) o

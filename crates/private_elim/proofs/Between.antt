@@ -1,20 +1,22 @@
 -- The weight between two points of a reduced local problem, by their places: view_of.
-use Rattle.std.proofs.Common.{◌≡◌, ◌≢◌, ℕ, ◌<◌, true, false, ◌&&◌, not, List, length, map, reverse, Option, Some, None, if◌then◌else◌, inl, inr, refl, sym, ap, ◌∙◌, arith}
+use Rattle.std.proofs.Common.{◌≡◌, ◌≢◌, ℕ, ◌<◌, true, false, ◌&&◌, not, List, length, map, reverse, Option, Some, None, if◌then◌else◌, inl, inr, ◌⊎◌, Bool, refl, sym, ap, subst, ◌∙◌, arith}
 use Rattle.std.specs.Prelude.{ℤ, ◌==◌, is_some, cond}
 use Rattle.std.proofs.lemmas.Bool.{cases_eq, false≢true, and_parts}
 use Rattle.std.proofs.lemmas.Bool.Decides.{nat_tests}
 use Rattle.stn_model.specs.ArcWalks.{IsInnerLeast}
 use Rattle.stn_model.specs.Net.{Net}
 use Rattle.stn_model.specs.Summaries.{Entry, IsSeenPair, IsEntryWeight, IsSummary, entry_weight, is_seen}
+use Rattle.stn_model.specs.Inner.{IsInnerWeight}
 use Rattle.stn_walk.specs.Eliminations.{is_in, before_both}
+use Rattle.stn_walk.proofs.Visits.{least_unique}
 use Rattle.elim_step.specs.declared.summary.SummaryEntry.{SummaryEntry}
 use Rattle.elim_step.specs.Eliminated.{forward_of, point_at}
 use Rattle.private_elim.specs.Locals.{local_of, arcs_in, place_in, private_at, passes_at, horizon_in}
-use Rattle.private_elim.specs.ReducedViews.{ReducedView, IsReduced, entry_of, entry_in, first_there, weight_between}
+use Rattle.private_elim.specs.ReducedViews.{ReducedView, IsReduced, entry_of, entry_in, first_there, weight_between, IsWeightBetween}
 use Rattle.private_elim.specs.Taken.{TakenView, HasTaken}
 use Rattle.private_elim.specs.SummaryRows.{is_pair_at, forward_at, entry_at, is_over}
 use Rattle.private_elim.proofs.LocalFacts.{numbered-is, seen_of_net}
-use Rattle.private_elim.proofs.TakenFacts.{forward_least, none_from_strange, none_to_strange}
+use Rattle.private_elim.proofs.TakenFacts.{forward_least, inner_weight, none_from_strange, none_to_strange}
 use Rattle.private_elim.proofs.SumsUp.{points_apart, pair_is, pair_passes, seen_pair, entry_is, places_of_pair}
 use Rattle.private_elim.proofs.EntryLookups.{found_holds, found_some, entry_unique}
 
@@ -153,3 +155,28 @@ module _ (t : TakenView) (h : HasTaken t) (summary : List SummaryEntry) (r : IsR
 
   pub between_ends : (i j : ℕ) → is_some (weight_between (view_of t summary) i j) ≡ true → place_in t.local.points j ≢ None
   between_ends i j there = (between_known i j there).to
+
+module _ (t : TakenView) (h : HasTaken t) (summary : List SummaryEntry) (i j : ℕ) (w : ℤ) where
+  apart_or : (b : Bool) → (i == j) ≡ b → i ≢ j → (if b then None else forward_of (arcs_in t.local) (reverse t.order) i j) ≡ forward_of (arcs_in t.local) (reverse t.order) i j
+  apart_or true e apart = absurd (apart (let f = e in grind (arith, nat_tests)))
+  apart_or false e apart = refl
+
+  -- the weight between two points, in the terms of walks and of elimination
+  pub between_from : IsWeightBetween (view_of t summary) i j w → weight_between (view_of t summary) i j ≡ Some w
+  between_from (inl entry) = ap (λ o. first_there o (if i == j then None else forward_of (arcs_in t.local) (reverse t.order) i j)) entry
+  between_from (inr none) =
+      ap (λ o. first_there o (if i == j then None else forward_of (arcs_in t.local) (reverse t.order) i j)) none.0
+      ∙ apart_or (i == j) refl none.1
+      ∙ least_unique (is_in (before_both (reverse t.order) i j)) (arcs_in t.local) i j (forward_of (arcs_in t.local) (reverse t.order) i j) (Some w) (forward_least t h i j) none.2.least
+
+  pub between_to : Some w ≡ weight_between (view_of t summary) i j → IsWeightBetween (view_of t summary) i j w
+  between_to is = by_entry (entry_in summary i j) refl (sym is) where
+    by_test : (b : Bool) → (i == j) ≡ b → (if b then None else forward_of (arcs_in t.local) (reverse t.order) i j) ≡ Some w
+        → (i ≢ j) × IsInnerWeight (is_in (before_both (reverse t.order) i j)) (arcs_in t.local) i j (Some w)
+    by_test true e same = absurd (cc)
+    by_test false e same = (grind (arith, nat_tests), inner_weight t h i j (Some w) (subst (IsInnerLeast (is_in (before_both (reverse t.order) i j)) (arcs_in t.local) i j) same (forward_least t h i j)))
+
+    by_entry : (o : Option ℤ) → entry_in summary i j ≡ o → first_there o (if i == j then None else forward_of (arcs_in t.local) (reverse t.order) i j) ≡ Some w
+        → (entry_in summary i j ≡ Some w) ⊎ ((entry_in summary i j ≡ None) × (i ≢ j) × IsInnerWeight (is_in (before_both (reverse t.order) i j)) (arcs_in t.local) i j (Some w))
+    by_entry None e same = let b = by_test (i == j) refl same in inr (e, b.0, b.1)
+    by_entry (Some v) e same = inl (e ∙ same)

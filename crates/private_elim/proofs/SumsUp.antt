@@ -296,4 +296,11 @@ module _ (t : TakenView) (h : HasTaken t) where
 
   -- so the local problem is reduced
   pub rows_reduce : ((p : ℕ) → is_private_in t.local p ≡ true → is_in (reverse t.order) p ≡ true) → IsReduced t.local t.order (rows_below t (length t.local.points))
-  rows_reduce whole = record { whole = whole; sums_up = λ net valid e. rows_sum_up whole net e }
+  rows_reduce whole = record {
+    known = h.known;
+    numbered = h.numbered;
+    private = h.private;
+    once = h.once;
+    whole = whole;
+    sums_up = λ net valid e. rows_sum_up whole net e;
+  }

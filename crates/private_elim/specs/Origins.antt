@@ -1,4 +1,4 @@
--- Where the weights of cells come from: rank_in, rank_of, IsArcOf, IsSumOf, IsOrigin, HasOrigins. The eliminated points are listed with the
+-- Where the weights of cells come from: rank_in, rank_of, IsArcOf, IsSumOf, IsFrom, HasOrigins. The eliminated points are listed with the
 -- last one first.
 use Rattle.std.specs.Prelude.{◌≡◌, ℕ, suc, ◌<◌, ◌+ℤ◌, List, [], ◌∷◌, true, Option, Some, length, ◌==◌, if◌then◌else◌, IfSome}
 use Rattle.stn_model.specs.declared.ids.Constraint.{Constraint}

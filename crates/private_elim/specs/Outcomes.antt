@@ -34,10 +34,12 @@ pub record IsConflictWith (v : LocalView) (walk : List ℕ) : Type 0 where
   pub cycle : OfNetwork v (λ net. IsOwnConflict net v.agent walk)
   pub normal : IsNormal walk
 
+-- the answer once all private points are taken
 abbrev pub IsReducedFrom : TakenView → PrivateOutcome → Type 0
 IsReducedFrom t (Reduced r) = IsReducedWith t.local t.order r
 IsReducedFrom t (Conflict walk place other) = ⊥
 
+-- the answer where a point fails, with the point q
 abbrev pub IsConflictFrom : TakenView → ℕ → PrivateOutcome → Type 0
 IsConflictFrom t q (Reduced r) = ⊥
 IsConflictFrom t q (Conflict walk place other) = IsConflictWith t.local walk × (place ≡ length t.order) × (other.0 ≡ q)

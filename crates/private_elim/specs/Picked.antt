@@ -1,4 +1,4 @@
--- The order in which a picker takes private points: IsDegree, IsCandidate, AreCandidates, IsPicked, ArePicked. The points taken are listed
+-- The order in which a picker takes private points: IsMet, IsDegree, AreCandidates, IsPicked, ArePicked, IsStopped. The points taken are listed
 -- with the last one first.
 use Rattle.std.specs.Prelude.{◌≡◌, ◌≢◌, ◌↔◌, ℕ, List, [], ◌∷◌, true, false, ◌&&◌, not, Some, length, map, filter, ⊤}
 use Rattle.std.specs.List.{AllByRecursion}

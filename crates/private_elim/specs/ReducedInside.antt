@@ -2,5 +2,6 @@
 use Rattle.private_elim.specs.declared.reduced.Reduced.TheInside.{Inside}
 use Rattle.private_elim.specs.ReducedViews.{ReducedView}
 
+-- what contracts see of the fields
 abbrev pub reduced_view : Inside → ReducedView
 reduced_view r = record { local = r.part.local; order = r.part.order; summary = r.summary }

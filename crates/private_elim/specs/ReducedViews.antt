@@ -1,12 +1,15 @@
--- What contracts see of a reduced local problem: ReducedView, entry_of, entry_in, weight_between, IsReduced.
-use Rattle.std.specs.Prelude.{◌≡◌, ℕ, ℤ, List, [], ◌∷◌, true, ◌&&◌, ◌==◌, Option, Some, None, map, reverse, if◌then◌else◌}
+-- What contracts see of a reduced local problem: ReducedView, entry_of, entry_in, first_there, weight_between, IsWeightBetween, IsReduced.
+use Rattle.std.specs.Prelude.{◌≡◌, ◌≢◌, ◌⊎◌, ℕ, ℤ, List, [], ◌∷◌, true, ◌&&◌, ◌==◌, Option, Some, None, map, reverse, if◌then◌else◌}
+use Rattle.std.specs.List.{AllByRecursion}
 use Rattle.stn_model.specs.Net.{Net}
 use Rattle.stn_model.specs.Valid.{IsNetwork}
 use Rattle.stn_model.specs.Summaries.{Entry, IsSummary}
-use Rattle.stn_walk.specs.Eliminations.{is_in}
+use Rattle.stn_model.specs.Inner.{IsInnerWeight}
+use Rattle.stn_model.specs.Walks.{AllDifferent}
+use Rattle.stn_walk.specs.Eliminations.{is_in, before_both}
 use Rattle.elim_step.specs.declared.summary.SummaryEntry.{SummaryEntry}
 use Rattle.elim_step.specs.Eliminated.{forward_of}
-use Rattle.private_elim.specs.Locals.{LocalView, local_of, arcs_in, is_private_in}
+use Rattle.private_elim.specs.Locals.{LocalView, IsLocal, local_of, arcs_in, all_numbered, is_private_in}
 
 -- a local problem, the order in which its private points were taken, and its summary
 pub record ReducedView : Type 0 where
@@ -32,7 +35,18 @@ first_there (Some w) o = Some w
 abbrev pub weight_between : ReducedView → ℕ → ℕ → Option ℤ
 weight_between r i j = first_there (entry_in r.summary i j) (if i == j then None else forward_of (arcs_in r.local) (reverse r.order) i j)
 
--- all private points are taken, and the summary is that of the agent in every network whose local problem it is
+-- w is the weight of the pair's entry; or it has none, and w is the least weight of walks of own arcs from i to j whose inner points are
+-- private and come before both
+abbrev pub IsWeightBetween : ReducedView → ℕ → ℕ → ℤ → Type 0
+IsWeightBetween r i j w =
+    (entry_in r.summary i j ≡ Some w)
+    ⊎ ((entry_in r.summary i j ≡ None) × (i ≢ j) × IsInnerWeight (is_in (before_both (reverse r.order) i j)) (arcs_in r.local) i j (Some w))
+
+-- The order holds each private point once and nothing else, and the summary is that of the agent in every network whose local problem it is.
 pub record IsReduced (local : LocalView) (order : List ℕ) (summary : List SummaryEntry) : Type 0 where
+  pub known : IsLocal local
+  pub numbered : all_numbered local.arcs ≡ true
+  pub private : AllByRecursion (λ p. is_private_in local p ≡ true) order
+  pub once : AllDifferent order
   pub whole : (p : ℕ) → is_private_in local p ≡ true → is_in (reverse order) p ≡ true
   pub sums_up : (net : Net) → IsNetwork net → local ≡ local_of net local.agent → IsSummary net local.agent (map entry_of summary)

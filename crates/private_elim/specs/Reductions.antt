@@ -1,5 +1,4 @@
--- A local problem whose private points are all taken, and the answers of its reduction: entry_of, entry_in, ReducedView, IsReduced, weight_between,
--- is_conflict, IfReduced, IfConflict, and what they say of a network: OfNetwork, HasOwnConflict, AreOwn.
+-- The answers of a reduction, is_conflict, IfReduced, IfConflict, and what they say of networks: OfNetwork, HasOwnConflict, AreOwn.
 use Rattle.std.specs.Prelude.{◌≡◌, ℕ, List, Bool, true, false}
 use Rattle.std.specs.List.{AllByRecursion}
 use Rattle.stn_model.specs.Arcs.{arc_at}

@@ -1,4 +1,4 @@
--- The entries of a summary, pair by pair, where all private points are taken: forward_at, is_pair_at, entry_at, pair_entries, row_below, row_of,
+-- The entries of a summary, pair by pair, where all private points are taken: forward_at, joined_at, is_pair_at, entry_at, pair_entries, row_below, row_of,
 -- rows_below, is_over.
 use Rattle.std.specs.Prelude.{ℕ, zero, suc, ℤ, int_lt, List, [], ◌∷◌, ◌++◌, length, reverse, Bool, true, ◌&&◌, not, ◌==◌, Option, Some, None, if◌then◌else◌}
 use Rattle.stn_model.specs.Summaries.{entry_weight}

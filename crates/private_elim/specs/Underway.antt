@@ -7,6 +7,7 @@ use Rattle.private_elim.specs.declared.elimination.Elimination.TheInside.{Inside
 use Rattle.private_elim.specs.Degrees.{degree_of}
 use Rattle.private_elim.specs.Taken.{TakenView, IsTaken}
 
+-- what contracts see of the fields
 abbrev pub taken_view : Inside → TakenView
 taken_view e = record { local = e.local; order = map (λ p. p.0) e.order.items }
 

@@ -1,5 +1,5 @@
--- A walk that is unfolded out of the origins of cells: is_unpublished, unfolds_at, Unfolds, IsAhead, LeadsOn, parts_weight, parts_size,
--- IsUnfolding. The parts that are still to be unfolded are a stack: the last one of the list is the next one of the walk.
+-- A walk that is unfolded out of the origins of cells: is_unpublished, unfolds_at, Unfolds, IsAhead, LeadsOn, weight_in, parts_weight,
+-- size_in, parts_size, IsUnfolding. The parts that are still to be unfolded are a stack: the last one of the list is the next one of the walk.
 use Rattle.std.specs.Prelude.{◌≡◌, ℕ, ℤ, pos, ◌+◌, ◌*◌, ◌^◌, ◌<◌, ◌+ℤ◌, List, [], ◌∷◌, ◌++◌, Bool, true, false, Option, Some, None, length, is_some, ◌⊎◌}
 use Rattle.std.specs.List.{AllByRecursion}
 use Rattle.stn_model.specs.declared.ids.Constraint.{Constraint}
@@ -57,6 +57,7 @@ abbrev pub size_in : List ℕ → List ℕ → Option Cell → ℕ
 size_in points es None = 0
 size_in points es (Some c) = 2 ^ (2 * rank_of points es c.via)
 
+-- the sum over the parts
 abbrev pub parts_size : List ℕ → List ℕ → (ℕ → ℕ → Option Cell) → List Part → ℕ
 parts_size points es at [] = 0
 parts_size points es at (part ∷ ahead) = size_in points es (at part.from part.to) + parts_size points es at ahead

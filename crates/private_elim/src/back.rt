@@ -8,7 +8,7 @@ use dist_rows::{MatrixRows, Rows};
 use std::alloc::Global;
 use stn_model::{OutOfMemory, PointId};
 
-/// Least bounds between pairs of an agent's points, one of them at least private.
+/// What a back sweep gives for pairs of an agent's points, one of them at least private: their least bounds.
 #[derive(Drop)]
 pub struct PrivateBounds {
     pub(crate) points: Vec<u32>,
@@ -22,8 +22,9 @@ pub struct PrivateBounds {
 impl PrivateBounds {
     ghost use Rattle.private_elim.specs.Backs.{bound_between};
 
-    /// The least bound on `time(j) - time(i)`. None exactly for a pair that the sweep did not give: equal points, a point that is not
-    /// of the local problem, two points that are not private, or a pair that is not joined. Takes no memory.
+    /// What the sweep gave for `time(j) - time(i)`, in the network's unit of time: the least bound, where it was handed least bounds of
+    /// a consistent network. None where one point is not of the local problem, neither is private, or the pair is not joined; and only
+    /// there, for such finals. Takes no memory.
     pub fn get(&self, i: PointId, j: PointId) -> Option<i128>
         ensures { result ≡ bound_between self.now i.0 j.0 }
     {
@@ -39,7 +40,7 @@ impl PrivateBounds {
         self.finals.get(from, to).map(|cell| cell.weight)
     }
 
-    /// Equal bounds.
+    /// Equal bounds, or OutOfMemory.
     pub fn copy(&self, alloc: Global) -> Result<PrivateBounds, OutOfMemory>
         ensures { IfOk result (λ b. (i j : ℕ) → bound_between b i j ≡ bound_between self.now i j) }
     {

@@ -29,8 +29,11 @@ use stn_model::{OutOfMemory, PointId};
 /// number is the point's, and its degree the number of points of the local problem, not yet taken, that are joined with it
 /// through points already taken (the reference point and the shared points among them; arcs without direction, whatever they weigh).
 ///
-/// Answers a conflict exactly where the agent has an own conflict: a negative cycle of own arcs of whose points at most one is not
-/// private. Else the local problem is reduced.
+/// A point fails where some other point that is not taken has two least weights with it, there and back, of walks of own arcs through
+/// the points taken before, that sum below 0. Answers a conflict exactly where the agent has an own conflict: a negative cycle of own
+/// arcs of whose points at most one is not private. Else the local problem is reduced. OutOfMemory where memory runs out.
+///
+/// Each arc of the local problem has a number: it was not narrowed.
 pub fn eliminate_private(
     alloc: Global,
     local: &Local,
@@ -44,7 +47,7 @@ pub fn eliminate_private(
     ensures local { IfOk result (IfReduced (λ r. r.local ≡ local.now)) }
     ensures private { IfOk result (IfReduced (λ r. AllByRecursion (λ p. is_private_in local.now p ≡ true) r.order)) }
     ensures once { IfOk result (IfReduced (λ r. AllDifferent r.order)) }
-    ensures whole { IfOk result (IfReduced (λ r. (p : ℕ) → is_private_in local.now p ≡ true → is_in (reverse r.order) p ≡ true)) }
+    ensures whole { IfOk result (IfReduced (λ r. (p : ℕ) → is_private_in local.now p ≡ true → is_in r.order p ≡ true)) }
     ensures picks { IfOk result (IfReduced (λ r. ArePicked (post (picker.now.key.vtable, picker.now.key.value)) local.now (reverse r.order))) }
     ensures summary { IfOk result (IfReduced (λ r. OfNetwork local.now (λ net. IsSummary net local.now.agent (map entry_of r.summary)))) }
 {
@@ -52,7 +55,7 @@ pub fn eliminate_private(
     take_picked::<Brand>(alloc, Blank::new(1), part, picker)
 }
 
-/// The same in a given order, which holds each private point once and nothing else.
+/// The same as [`eliminate_private`] in a given order, which holds each private point once and nothing else.
 pub fn eliminate_listed(
     alloc: Global,
     local: &Local,
@@ -61,7 +64,7 @@ pub fn eliminate_listed(
     requires numbered { all_numbered local.now.arcs ≡ true }
     requires private { AllByRecursion (λ p. is_private_in local.now p.0 ≡ true) order.now }
     requires once { AllDifferent (map (λ p. p.0) order.now) }
-    requires whole { (p : ℕ) → is_private_in local.now p ≡ true → is_in (reverse (map (λ p. p.0) order.now)) p ≡ true }
+    requires whole { (p : ℕ) → is_private_in local.now p ≡ true → is_in (map (λ p. p.0) order.now) p ≡ true }
     ensures conflict { IfOk result (λ o. OfNetwork local.now (λ net. is_conflict o ≡ true ↔ HasOwnConflict net local.now.agent)) }
     ensures cycle { IfOk result (IfConflict (λ walk place other. OfNetwork local.now (λ net. IsOwnConflict net local.now.agent walk))) }
     ensures normal { IfOk result (IfConflict (λ walk place other. IsNormal walk)) }

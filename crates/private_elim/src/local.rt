@@ -22,7 +22,8 @@ pub struct LocalArc {
     pub arc: Constraint,
 }
 
-/// The reference point, an agent's points with their kinds, and its own arcs with their numbers; nothing else of the network.
+/// The reference point, an agent's points with their kinds, and its own arcs with their numbers; nothing else of the network. An arc is
+/// own to an agent where each of its ends is the reference point or a point of that agent.
 ///
 /// The points stand at places: the reference point at place 0, and then the agent's points by number.
 #[derive(Drop)]

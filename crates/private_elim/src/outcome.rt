@@ -14,7 +14,8 @@ pub enum PrivateOutcome {
         walk: Walk,
         /// How many points were taken before the first that failed.
         place: u32,
-        /// The least point with which that one failed: the weights from the one to the other and back sum below 0.
+        /// The least point, not yet taken, with which that one failed: the least weights of walks of own arcs between the two, there
+        /// and back, through the points taken before, sum below 0.
         other: PointId,
     },
 }

@@ -1,11 +1,11 @@
 //! A local problem whose private points are all taken: its summary, the weights between its points, and their walks.
-ghost use Rattle.std.specs.Prelude.{◌≡◌, ◌≢◌, ◌<◌, ◌*◌, ◌-◌, [], ◌∷◌, true, false, ◌&&◌, Some, None, IfOk, is_some, length, reverse, map};
+ghost use Rattle.std.specs.Prelude.{◌≡◌, ◌≢◌, ℤ, ◌<◌, ◌*◌, ◌-◌, [], ◌∷◌, true, false, ◌&&◌, Some, None, IfOk, is_some, length, reverse, map};
 ghost use Rattle.stn_model.specs.Net.{arcs_of};
 ghost use Rattle.stn_model.specs.Walks as walks;
 ghost use Rattle.stn_model.specs.Inner.{IsInnerWeight};
 ghost use Rattle.stn_walk.specs.Eliminations.{is_in, before_both};
 ghost use Rattle.private_elim.specs.Locals.{arcs_in, is_point_of, horizon_in};
-ghost use Rattle.private_elim.specs.ReducedViews.{weight_between, IsReduced};
+ghost use Rattle.private_elim.specs.ReducedViews.{weight_between, IsWeightBetween, IsReduced};
 ghost use Rattle.private_elim.specs.Reductions.{OfNetwork, AreOwn};
 ghost use Rattle.private_elim.specs.SummaryRows.{is_pair_at, forward_at, is_over};
 
@@ -18,8 +18,8 @@ use std::marker::Model;
 use stn_model::{OutOfMemory, PointId};
 use stn_walk::Walk;
 
-/// A local problem whose private points are all taken, with the order in which they were, its summary, and the weights between its
-/// points through private ones.
+/// A local problem whose private points are all taken: each of them stands once in the order, and the summary is the agent's. With the
+/// weights between its points through private ones.
 #[derive(Drop)]
 pub struct Reduced {
     pub(crate) part: Elimination,
@@ -46,7 +46,9 @@ impl Reduced {
         self.part.order()
     }
 
-    /// What the agent tells the others: the summary of its own arcs.
+    /// What the agent tells the others: for each ordered pair of different points that others see (the reference point and its shared
+    /// points) and that its own arcs join through private points alone, the least weight of walks of own arcs through those, or the
+    /// horizon where that is less or there is no such walk.
     pub fn summary(&self) -> &Summary
         ensures value { result.now ≡ self.now.summary }
         ensures reduced { IsReduced self.now.local self.now.order self.now.summary }
@@ -71,9 +73,23 @@ impl Reduced {
         self.part.weight(from, to)
     }
 
-    /// A walk of own arcs, by their numbers in the network, for a pair that has an entry of the summary or a forward weight: its
-    /// weight is that of the entry where the pair has one, and else the forward weight. OutOfMemory where memory runs out.
+    /// A walk of own arcs, by their numbers in the network, for a pair that has an entry of the summary or a
+    /// [`forward`](Reduced::forward) weight: its weight is that of the entry where the pair has one, and else the forward
+    /// weight. OutOfMemory where memory runs out.
     pub fn walk(&self, alloc: Global, i: PointId, j: PointId) -> Result<Walk, OutOfMemory>
+        requires { (w : ℤ) × IsWeightBetween self.now i.0 j.0 w }
+        ensures walk { IfOk result (λ w. OfNetwork self.now.local (λ net. walks.IsWalk (arcs_of net) i.0 j.0 w)) }
+        ensures own { IfOk result (λ w. OfNetwork self.now.local (λ net. AreOwn net self.now.local.agent w)) }
+        ensures weight { IfOk result (λ w. OfNetwork self.now.local (λ net. IsWeightBetween self.now i.0 j.0 (walks.weight (arcs_of net) w))) }
+    {
+        // As in `forward`: no closed walk through taken points is negative.
+        let _size = self.part.size();
+        let walk = self.walk_between(alloc, i, j)?;
+        Ok(walk)
+    }
+
+    // The same, where the forward weight is what elimination gives.
+    fn walk_between(&self, alloc: Global, i: PointId, j: PointId) -> Result<Walk, OutOfMemory>
         requires { is_some (weight_between self.now i.0 j.0) ≡ true }
         ensures walk { IfOk result (λ w. OfNetwork self.now.local (λ net. walks.IsWalk (arcs_of net) i.0 j.0 w)) }
         ensures own { IfOk result (λ w. OfNetwork self.now.local (λ net. AreOwn net self.now.local.agent w)) }

@@ -3,6 +3,7 @@ use Rattle.std.specs.List.{AllByRecursion}
 use Rattle.std.proofs.lemmas.List.{length-map}
 use Rattle.std.proofs.lemmas.Result.{IfOk-weaker}
 use Rattle.stn_model.specs.declared.ids.PointId.{PointId}
+use Rattle.stn_walk.proofs.Joins.{is_in-reverse}
 use Rattle.private_elim.specs.Locals.{LocalView, is_private_in}
 use Rattle.private_elim.specs.Outcomes.{IsListedOutcome}
 use Rattle.private_elim.proofs.Answered.{sound_listed, exactly, cycle_is, summary_is, place_is}
@@ -13,7 +14,7 @@ take_listed-requires-clause-private c =
     subst (λ (v : LocalView). AllByRecursion (λ (p : PointId). is_private_in v p.0 ≡ true) c.args.order.now) (sym c.in_ok-part.ensures.local) c.requires.private
 
 pub take_listed-requires-clause-whole : goal.take_listed-requires-clause-whole
-take_listed-requires-clause-whole c = λ p private. c.requires.whole p (ap (λ (v : LocalView). is_private_in v p) (sym c.in_ok-part.ensures.local) ∙ private)
+take_listed-requires-clause-whole c = λ p private. is_in-reverse (map (λ (p : PointId). p.0) c.args.order.now) p ∙ c.requires.whole p (ap (λ (v : LocalView). is_private_in v p) (sym c.in_ok-part.ensures.local) ∙ private)
 
 pub returns-clause-conflict : goal.returns-clause-conflict
 returns-clause-conflict c =
