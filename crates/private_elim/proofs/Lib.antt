@@ -39,3 +39,4 @@ pub mod Entries
 pub mod SweepEnds
 pub mod Bounds
 pub mod SweepTurns
+pub mod SameParts

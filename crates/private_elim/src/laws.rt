@@ -1,7 +1,13 @@
 //! Laws about local problems, which no code keeps: functions with an empty body, whose contract is the law.
-ghost use Rattle.private_elim.specs.Laws.{LocalsSeeNoMore};
+ghost use Rattle.private_elim.specs.Laws.{LocalsSeeNoMore, SweepsAgree};
 
 /// An agent's local problem has nothing of the network but the agent's points, their kinds, and its own arcs with their numbers.
 pub fn locals_see_no_more()
     ensures { LocalsSeeNoMore }
+{}
+
+/// Two back sweeps of the same points, kinds and own arcs of an agent, with its private points taken in the same order, give the same bounds
+/// from the same least bounds of a network with that part: the rest of the network, and so the numbers of the arcs, changes nothing.
+pub fn sweeps_agree()
+    ensures { SweepsAgree }
 {}
