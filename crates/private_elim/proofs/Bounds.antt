@@ -13,7 +13,7 @@ use Rattle.dist_rows.specs.Matrix.{in_room, cell_at}
 use Rattle.elim_step.specs.Eliminated.{weight_at}
 use Rattle.private_elim.specs.declared.back.PrivateBounds.{PrivateBounds}
 use Rattle.private_elim.specs.Locals.{place_in}
-use Rattle.private_elim.specs.Backs.{bound_at, bound_between}
+use Rattle.private_elim.specs.Backs.{bound_by_place, bound_between}
 use Rattle.private_elim.proofs.Places.{Rises}
 
 -- two different places have room
@@ -34,7 +34,7 @@ pairs-from_rises xs h i j d lt within =
 -- equal fields give equal bounds
 bound_same : (a b : PrivateBounds) → a.private.items ≡ b.private.items
     → ((p q : ℕ) → cell_at a.finals.size a.finals.slots.items p q ≡ cell_at b.finals.size b.finals.slots.items p q)
-    → (o u : Option ℕ) → bound_at a o u ≡ bound_at b o u
+    → (o u : Option ℕ) → bound_by_place a o u ≡ bound_by_place b o u
 bound_same a b flags cells None u = refl
 bound_same a b flags cells (Some p) None = refl
 bound_same a b flags cells (Some p) (Some q) =
@@ -44,7 +44,7 @@ pub bounds_same : (a b : PrivateBounds) → a.points.items ≡ b.points.items �
     → ((p q : ℕ) → cell_at a.finals.size a.finals.slots.items p q ≡ cell_at b.finals.size b.finals.slots.items p q)
     → (i j : ℕ) → bound_between a i j ≡ bound_between b i j
 bounds_same a b points flags cells i j =
-    ap (λ ps. bound_at a (place_in ps i) (place_in ps j)) points ∙ bound_same a b flags cells (place_in b.points.items i) (place_in b.points.items j)
+    ap (λ ps. bound_by_place a (place_in ps i) (place_in ps j)) points ∙ bound_same a b flags cells (place_in b.points.items i) (place_in b.points.items j)
 
 -- private bounds of these fields, which speak of a list of points that rises
 abbrev pub bounds_of : (points : Vec ℕ Global) (private : Vec Bool Global) (finals : MatrixRows) (xs : List ℕ)

@@ -30,6 +30,7 @@ pub mod Between
 pub mod Detours
 pub mod ReducedWalks
 pub mod Answered
+pub mod PartNetworks
 pub mod OwnWalks
 pub mod Orders
 pub mod SweepParts
@@ -38,3 +39,4 @@ pub mod Entries
 pub mod SweepEnds
 pub mod Bounds
 pub mod SweepTurns
+pub mod SameParts

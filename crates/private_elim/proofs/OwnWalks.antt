@@ -18,11 +18,11 @@ use Rattle.stn_model.specs.Net.{Net, arcs_of, owner_of}
 use Rattle.stn_model.specs.Kinds.{same_owner, is_external, names_point, is_shared, is_owned_by, is_own, is_private_of}
 use Rattle.stn_model.specs.Conflicts.{own_arcs}
 use Rattle.stn_model.specs.ArcWalks.{GoesOn, IsInner, IsInnerLeast}
-use Rattle.private_elim.specs.Locals.{LocalView, local_of, arcs_in, is_private_in}
+use Rattle.private_elim.specs.Locals.{LocalView, arcs_in, is_private_in}
+use Rattle.private_elim.specs.Reductions.{HasPart}
 use Rattle.private_elim.proofs.Owned.{owned_in}
-use Rattle.private_elim.proofs.OwnArcs.{numbered_arc}
-use Rattle.private_elim.proofs.Parts.{Contains-map}
-use Rattle.private_elim.proofs.LocalFacts.{arcs_of_net, private_of_net, own_of_net}
+use Rattle.private_elim.proofs.NoConflicts.{own_listed}
+use Rattle.private_elim.proofs.PartNetworks.{private_of_part}
 
 -- a walk over a list is one over each list that has its arcs
 inner_more : (inner : ℕ → Bool) (arcs more : List Constraint) (i j : ℕ) (w : List Constraint) → ((a : Constraint) → Contains arcs a → Contains more a)
@@ -117,11 +117,11 @@ module _ (net : Net) (agent : ℕ) where
             own_second (nat_eq a.from.0 0) (is_owned_by net agent a.from.0) (nat_eq a.to.0 0) (is_owned_by net agent a.to.0) p.1 p.0 (inr owned)
       ] refl
 
-module _ (v : LocalView) (net : Net) (e : v ≡ local_of net v.agent) where
+module _ (v : LocalView) (net : Net) (part : HasPart net v) where
   -- the own arcs are arcs of the network
   pub own_contained_in : (a : Constraint) → Contains (arcs_in v) a → Contains (arcs_of net) a
   own_contained_in a here =
-      let own : Contains (own_arcs net v.agent) a = subst (λ xs. Contains xs a) (arcs_of_net v net e) here in
+      let own : Contains (own_arcs net v.agent) a = subst (λ xs. Contains xs a) part.arcs here in
       All-contains (Contains (arcs_of net)) (own_arcs net v.agent) a
       (All-filter (is_own net v.agent) (Contains (arcs_of net)) (arcs_of net) (All-contains_itself (arcs_of net))) own
 
@@ -129,14 +129,14 @@ module _ (v : LocalView) (net : Net) (e : v ≡ local_of net v.agent) where
   contained_own : (a : Constraint) → Contains (arcs_of net) a → is_own net v.agent a ≡ true → Contains (arcs_in v) a
   contained_own a here own =
       let at : arc_at (arcs_of net) here.0 ≡ a = get_or_default (arcs_of net) here.0 no_arc a here.1 ∙ here.2 in
-      subst (Contains (arcs_in v)) at
-      (Contains-map (λ x. x.arc) v.arcs (numbered_arc net here.0) (own_of_net v net e here.0 here.1 (ap (is_own net v.agent) at ∙ own)))
+      let listed = own_listed net v.agent here.0 here.1 (ap (is_own net v.agent) at ∙ own) in
+      subst (λ xs. Contains xs a) (sym part.arcs) (subst (Contains (own_arcs net v.agent)) at listed)
 
   own_from : (a : Constraint) → Contains (arcs_of net) a → is_private_in v a.from.0 ≡ true → Contains (arcs_in v) a
-  own_from a here h = contained_own a here (own_from_private net v.agent a here (sym (private_of_net v net e a.from.0) ∙ h))
+  own_from a here h = contained_own a here (own_from_private net v.agent a here (sym (private_of_part v net part a.from.0) ∙ h))
 
   own_to : (a : Constraint) → Contains (arcs_of net) a → is_private_in v a.to.0 ≡ true → Contains (arcs_in v) a
-  own_to a here h = contained_own a here (own_to_private net v.agent a here (sym (private_of_net v net e a.to.0) ∙ h))
+  own_to a here h = contained_own a here (own_to_private net v.agent a here (sym (private_of_part v net part a.to.0) ∙ h))
 
   module _ (inner : ℕ → Bool) (private : (p : ℕ) → inner p ≡ true → is_private_in v p ≡ true) where
     -- a walk from a private point is one of own arcs

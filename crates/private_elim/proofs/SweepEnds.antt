@@ -26,14 +26,16 @@ use Rattle.elim_step.specs.Summaries.{is_summary}
 use Rattle.elim_step.specs.Eliminates.{remains}
 use Rattle.elim_step.specs.Eliminated.{weight_at, point_at}
 use Rattle.private_elim.specs.declared.back.PrivateBounds.{PrivateBounds}
-use Rattle.private_elim.specs.Locals.{LocalView, local_of, arcs_in, place_in, private_at, passes_at, is_private_in}
+use Rattle.private_elim.specs.Locals.{LocalView, arcs_in, place_in, private_at, passes_at, is_private_in}
 use Rattle.private_elim.specs.Taken.{IsTaken}
 use Rattle.private_elim.specs.ReducedViews.{entry_in}
-use Rattle.private_elim.specs.Backs.{bound_at, bound_between, IsPrivatePair, HoldsFinals, IsLeastIn}
+use Rattle.private_elim.specs.Reductions.{HasPart}
+use Rattle.private_elim.specs.Backs.{bound_by_place, bound_between, IsPrivatePair, HoldsFinals, IsLeastIn}
 use Rattle.private_elim.specs.Sweeps.{HasGiven, IsSwept}
 use Rattle.private_elim.proofs.Places.{place_found, place_contained}
 use Rattle.private_elim.proofs.Owned.{points_below}
-use Rattle.private_elim.proofs.LocalFacts.{place_of_point_at, arc_joins, arcs_of_net, private_of_net, seen_of_net}
+use Rattle.private_elim.proofs.LocalFacts.{place_of_point_at, arc_joins}
+use Rattle.private_elim.proofs.PartNetworks.{private_of_part, seen_of_part}
 use Rattle.private_elim.proofs.Entries.{entry_light}
 use Rattle.private_elim.proofs.SweepParts.{order_private}
 use Rattle.private_elim.proofs.Takes.{private_at_is}
@@ -95,35 +97,35 @@ module _ (v : LocalView) (order : List ℕ) (f : ℕ → ℕ → Option Cell) (j
       seen_done p lp h = seen p lp ∙ ap not h
 
       -- the points that come before others in the order are private
-      all_private : (net : Net) → v ≡ local_of net v.agent → (i j : ℕ) (inner : List ℕ) → AllByRecursion (λ p. ComesBefore order p i × ComesBefore order p j) inner
+      all_private : (net : Net) → HasPart net v → (i j : ℕ) (inner : List ℕ) → AllByRecursion (λ p. ComesBefore order p i × ComesBefore order p j) inner
           → AllByRecursion (λ p. is_private_of net v.agent p ≡ true) inner
-      all_private net e i j [] all = tt
-      all_private net e i j (p ∷ ps) all =
+      all_private net part i j [] all = tt
+      all_private net part i j (p ∷ ps) all =
           let here = before-in (reverse order) i j p (before_both-from_order order i j p all.0) in (
-            sym (private_of_net v net e p) ∙ order_private v order f joined remain t p here,
-            all_private net e i j ps all.1,
+            sym (private_of_part v net part p) ∙ order_private v order f joined remain t p here,
+            all_private net part i j ps all.1,
           )
 
-      seen_point : (net : Net) → v ≡ local_of net v.agent → (p : ℕ) → p < length v.points → private_at v p ≡ false → is_seen net v.agent (point_at v.points p) ≡ true
-      seen_point net e p lp h =
-          sym (seen_of_net v net e (point_at v.points p)) ∙ ap (passes_at (λ k. not (private_at v k))) (place_of_point_at v t.known p lp) ∙ ap not h
+      seen_point : (net : Net) → HasPart net v → (p : ℕ) → p < length v.points → private_at v p ≡ false → is_seen net v.agent (point_at v.points p) ≡ true
+      seen_point net part p lp h =
+          sym (seen_of_part v net part (point_at v.points p)) ∙ ap (passes_at (λ k. not (private_at v k))) (place_of_point_at v t.known p lp) ∙ ap not h
 
-      least_first : (net : Net) → IsNetwork net → v ≡ local_of net v.agent → HoldsFinals net v.agent entries
+      least_first : (net : Net) → IsNetwork net → HasPart net v → HoldsFinals net v.agent entries
           → (p q : ℕ) → p < length v.points → q < length v.points → remains done p ≡ true → remains done q ≡ true
           → IsJoined (arcs_in v) order (point_at v.points p) (point_at v.points q)
           → IsInnerLeast every (arcs_of net) (point_at v.points p) (point_at v.points q) (weight_at (at p q))
-      least_first net valid_net e holds p q lp lq done_p done_q joins =
+      least_first net valid_net part holds p q lp lq done_p done_q joins =
           let x = point_at v.points p in
           let y = point_at v.points q in
           let seen_p = is_seen_place p lp done_p in
           let seen_q = is_seen_place q lq done_q in
           let pair : IsSeenPair net v.agent x y = record {
             different = joins.different;
-            from = seen_point net e p lp seen_p;
-            to = seen_point net e q lq seen_q;
+            from = seen_point net part p lp seen_p;
+            to = seen_point net part q lq seen_q;
             inner = joins.inner;
-            path = subst (λ arcs. IsPath arcs x y joins.inner) (arcs_of_net v net e) joins.path;
-            privately = all_private net e x y joins.inner joins.before;
+            path = subst (λ arcs. IsPath arcs x y joins.inner) part.arcs joins.path;
+            privately = all_private net part x y joins.inner joins.before;
           } in
           let bound = holds.bounds x y pair in
           let weighs : weight_at (at p q) ≡ Some bound.0 =
@@ -161,7 +163,7 @@ module _ (v : LocalView) (order : List ℕ) (f : ℕ → ℕ → Option Cell) (j
     some_weight None h = h
     some_weight (Some c) h = refl
 
-    only_places : (p q : ℕ) → p < length v.points → q < length v.points → is_some (bound_at b (Some p) (Some q)) ≡ true
+    only_places : (p q : ℕ) → p < length v.points → q < length v.points → is_some (bound_by_place b (Some p) (Some q)) ≡ true
         → IsPrivatePair (record { local = v; order = order; summary = summary }) (point_at v.points p) (point_at v.points q)
     only_places p q lp lq some =
         let flagged = slice_index_or b.private.items p false || slice_index_or b.private.items q false in
@@ -173,7 +175,7 @@ module _ (v : LocalView) (order : List ℕ) (f : ℕ → ℕ → Option Cell) (j
           | false ↦ λ is there. absurd (false≢true there)
         ] refl some
 
-    only_at : (i j : ℕ) (o u : Option ℕ) → place_in v.points i ≡ o → place_in v.points j ≡ u → is_some (bound_at b o u) ≡ true
+    only_at : (i j : ℕ) (o u : Option ℕ) → place_in v.points i ≡ o → place_in v.points j ≡ u → is_some (bound_by_place b o u) ≡ true
         → IsPrivatePair (record { local = v; order = order; summary = summary }) i j
     only_at i j None u first second some = absurd (false≢true some)
     only_at i j (Some p) None first second some = absurd (false≢true some)
@@ -185,7 +187,7 @@ module _ (v : LocalView) (order : List ℕ) (f : ℕ → ℕ → Option Cell) (j
 
     pub swept_only : (i j : ℕ) → is_some (bound_between b i j) ≡ true → IsPrivatePair (record { local = v; order = order; summary = summary }) i j
     swept_only i j some =
-        only_at i j (place_in v.points i) (place_in v.points j) refl refl (sym (ap (λ ps. is_some (bound_at b (place_in ps i) (place_in ps j))) same) ∙ some)
+        only_at i j (place_in v.points i) (place_in v.points j) refl refl (sym (ap (λ ps. is_some (bound_by_place b (place_in ps i) (place_in ps j))) same) ∙ some)
 
     -- all places are done
     all_done : (p : ℕ) → p < length v.points → remains done p ≡ true
@@ -201,14 +203,13 @@ module _ (v : LocalView) (order : List ℕ) (f : ℕ → ℕ → Option Cell) (j
     least_there net valid consistent i j li lj differ (Some c) least =
         inner_least_bound (point_count net) (arcs_of net) (network_ends net valid) consistent i j c differ least
 
-    below_count : (net : Net) → v ≡ local_of net v.agent → (p : ℕ) → p < length v.points → point_at v.points p < point_count net
-    below_count net e p lp =
-        let points = ap (λ w. w.points) e in
-        subst (λ ps. point_at ps p < point_count net) (sym points) (points_below net v.agent p 0 (omega (arith, ap length points)))
+    below_count : (net : Net) → HasPart net v → (p : ℕ) → p < length v.points → point_at v.points p < point_count net
+    below_count net part p lp =
+        subst (λ ps. point_at ps p < point_count net) (sym part.points) (points_below net v.agent p 0 (omega (arith, ap length part.points)))
 
-    pub swept_least : (net : Net) → IsNetwork net → v ≡ local_of net v.agent → HoldsFinals net v.agent entries
+    pub swept_least : (net : Net) → IsNetwork net → HasPart net v → HoldsFinals net v.agent entries
         → (i j : ℕ) → IsPrivatePair (record { local = v; order = order; summary = summary }) i j → IsLeastIn net i j (bound_between b i j)
-    swept_least net valid e holds i j pair =
+    swept_least net valid part holds i j pair =
         let joins = pair.joined in
         let ends = path_ends i j joins.inner joins.path in
         let from = placed i ends.0 in
@@ -218,14 +219,14 @@ module _ (v : LocalView) (order : List ℕ) (f : ℕ → ℕ → Option Cell) (j
         let private : (private_at v p || private_at v q) ≡ true =
         sym (private_points p q from.1 to.1) ∙ (λ k. is_private_in v (from.2 k) || is_private_in v (to.2 k)) ∙ pair.private in
         let bound : bound_between b i j ≡ weight_at (at p q) =
-        ap (λ ps. bound_at b (place_in ps i) (place_in ps j)) same
-        ∙ (λ k. bound_at b (from.3 k) (to.3 k))
+        ap (λ ps. bound_by_place b (place_in ps i) (place_in ps j)) same
+        ∙ (λ k. bound_by_place b (from.3 k) (to.3 k))
         ∙ ap (λ c. if c then weight_at (at p q) else None) (private_pair p q from.1 to.1 ∙ private) in
-        let low_i : i < point_count net = subst (λ x. x < point_count net) from.2 (below_count net e p from.1) in
-        let low_j : j < point_count net = subst (λ x. x < point_count net) to.2 (below_count net e q to.1) in
+        let low_i : i < point_count net = subst (λ x. x < point_count net) from.2 (below_count net part p from.1) in
+        let low_j : j < point_count net = subst (λ x. x < point_count net) to.2 (below_count net part q to.1) in
         let joined_places : IsJoined (arcs_in v) order (point_at v.points p) (point_at v.points q) =
         subst (λ x. IsJoined (arcs_in v) order x (point_at v.points q)) (sym from.2) (subst (IsJoined (arcs_in v) order i) (sym to.2) joins) in
-        let least = s.least net valid e holds p q from.1 to.1 (all_done p from.1) (all_done q to.1) joined_places in
+        let least = s.least net valid part holds p q from.1 to.1 (all_done p from.1) (all_done q to.1) joined_places in
         let least_walk : IsInnerLeast every (arcs_of net) i j (weight_at (at p q)) =
         subst (λ x. IsInnerLeast every (arcs_of net) x j (weight_at (at p q))) from.2
         (subst (λ y. IsInnerLeast every (arcs_of net) (point_at v.points p) y (weight_at (at p q))) to.2 least) in

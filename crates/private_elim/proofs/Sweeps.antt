@@ -27,8 +27,9 @@ use Rattle.elim_step.specs.Eliminates.{remains, sum_through}
 use Rattle.elim_step.specs.Eliminated.{weight_at, point_at}
 use Rattle.elim_step.specs.Revisits.{reach_of, out_sum, in_sum, IsLeastSum, Revisits}
 use Rattle.elim_step.proofs.FinalWeights.{Prepared, finals_are_least}
-use Rattle.private_elim.specs.Locals.{LocalView, local_of, arcs_in, private_at, is_private_in}
+use Rattle.private_elim.specs.Locals.{LocalView, arcs_in, private_at, is_private_in}
 use Rattle.private_elim.specs.Taken.{IsTaken}
+use Rattle.private_elim.specs.Reductions.{HasPart}
 use Rattle.private_elim.specs.Backs.{HoldsFinals}
 use Rattle.private_elim.specs.Sweeps.{IsSwept}
 use Rattle.private_elim.proofs.Places.{place_nowhere}
@@ -193,7 +194,7 @@ module _ (v : LocalView) (order : List ℕ) (f : ℕ → ℕ → Option Cell) (j
       far (Some c) h few = omega arith
 
   -- in a network in which the entries hold least bounds
-  module _ (net : Net) (valid : IsNetwork net) (e : v ≡ local_of net v.agent) (holds : HoldsFinals net v.agent entries) where
+  module _ (net : Net) (valid : IsNetwork net) (part : HasPart net v) (holds : HoldsFinals net v.agent entries) where
     here : is_private_in v (point_at v.points k) ≡ true
     here = here_private v order f joined remain t n k lt lk is
 
@@ -203,14 +204,14 @@ module _ (v : LocalView) (order : List ℕ) (f : ℕ → ℕ → Option Cell) (j
     least_out : (m : ℕ) → m < length v.points → is_in before (point_at v.points m) ≡ false → m ≢ k
         → IsInnerLeast (is_in before) (arcs_of net) (point_at v.points k) (point_at v.points m) (weight_at (f k m))
     least_out m lm out other =
-        least_from_private v net e (is_in before) private (point_at v.points k) (point_at v.points m) (weight_at (f k m)) here
+        least_from_private v net part (is_in before) private (point_at v.points k) (point_at v.points m) (weight_at (f k m)) here
         (subst (IsInnerLeast (is_in before) (arcs_in v) (point_at v.points k) (point_at v.points m)) (sym (cell_out v order f joined remain t n k lt lk is m lm other out))
         (cell-least (arcs_in v) before (none_left v order f joined remain t n k lt lk is) (point_at v.points k) (point_at v.points m)))
 
     least_back : (m : ℕ) → m < length v.points → is_in before (point_at v.points m) ≡ false → m ≢ k
         → IsInnerLeast (is_in before) (arcs_of net) (point_at v.points m) (point_at v.points k) (weight_at (f m k))
     least_back m lm out other =
-        least_to_private v net e (is_in before) private (point_at v.points m) (point_at v.points k) (weight_at (f m k)) here
+        least_to_private v net part (is_in before) private (point_at v.points m) (point_at v.points k) (weight_at (f m k)) here
         (subst (IsInnerLeast (is_in before) (arcs_in v) (point_at v.points m) (point_at v.points k)) (sym (cell_back v order f joined remain t n k lt lk is m lm other out))
         (cell-least (arcs_in v) before (none_left v order f joined remain t n k lt lk is) (point_at v.points m) (point_at v.points k)))
 
@@ -228,12 +229,12 @@ module _ (v : LocalView) (order : List ℕ) (f : ℕ → ℕ → Option Cell) (j
       back = least_back;
       joined = λ m lm out other none. cells_apart v order f joined remain t n k lt lk is m lm other out (not_joined m lm out other none);
       strange = λ p away out. (
-        λ w h. none_to_strange v t.known (is_in before) (point_at v.points k) p (place_nowhere v.points p away) w (from_private v net e (is_in before) private (point_at v.points k) p w here h),
-        λ w h. none_from_strange v t.known (is_in before) p (point_at v.points k) (place_nowhere v.points p away) w (to_private v net e (is_in before) private p (point_at v.points k) w here h),
+        λ w h. none_to_strange v t.known (is_in before) (point_at v.points k) p (place_nowhere v.points p away) w (from_private v net part (is_in before) private (point_at v.points k) p w here h),
+        λ w h. none_from_strange v t.known (is_in before) p (point_at v.points k) (place_nowhere v.points p away) w (to_private v net part (is_in before) private p (point_at v.points k) w here h),
       );
       outside = λ m h. (within m h, later_left m h, later_other m h);
       between = λ m j first second apart.
-          s.least net valid e holds m j (within m first) (within j second) (later_done m first).0 (later_done j second).0 (later_joined m j first second apart);
+          s.least net valid part holds m j (within m first) (within j second) (later_done m first).0 (later_done j second).0 (later_joined m j first second apart);
     }
 
   -- the revisit
@@ -292,12 +293,12 @@ module _ (v : LocalView) (order : List ℕ) (f : ℕ → ℕ → Option Cell) (j
     is_later : (q : ℕ) → q < length v.points → q ≢ k → remains (set done k true) q ≡ true → joined k q ≡ true → blocks.is_in q later ≡ true
     is_later q lq other is_done joins = each q ∙ and_from (remains done q) (joined k q) (was_done q other is_done) joins
 
-    least_more : (net : Net) → IsNetwork net → v ≡ local_of net v.agent → HoldsFinals net v.agent entries
+    least_more : (net : Net) → IsNetwork net → HasPart net v → HoldsFinals net v.agent entries
         → (p q : ℕ) → p < length v.points → q < length v.points → remains (set done k true) p ≡ true → remains (set done k true) q ≡ true
         → IsJoined (arcs_in v) order (point_at v.points p) (point_at v.points q)
         → IsInnerLeast every (arcs_of net) (point_at v.points p) (point_at v.points q) (weight_at (after p q))
-    least_more net valid e holds =
-        let found = finals_are_least (is_in before) (arcs_of net) v.points k later f at after (prepared net valid e holds) r in
+    least_more net valid part holds =
+        let found = finals_are_least (is_in before) (arcs_of net) v.points k later f at after (prepared net valid part holds) r in
         by_pair k later (λ p q. p < length v.points → q < length v.points → remains (set done k true) p ≡ true → remains (set done k true) q ≡ true
         → IsJoined (arcs_in v) order (point_at v.points p) (point_at v.points q)
         → IsInnerLeast every (arcs_of net) (point_at v.points p) (point_at v.points q) (weight_at (after p q)))
@@ -314,7 +315,7 @@ module _ (v : LocalView) (order : List ℕ) (f : ℕ → ℕ → Option Cell) (j
         let h = is_later p lp p_other done_p (ap (λ x. joined x p) (sym same) ∙ sym turned ∙ both.1) in
         false≢true (sym no_back ∙ ap (λ b. b && blocks.is_in p later) (eq-eqb q k same) ∙ h)) in
         subst (λ o. IsInnerLeast every (arcs_of net) (point_at v.points p) (point_at v.points q) (weight_at o)) (sym (r.others p q no_out no_back))
-        (s.least net valid e holds p q lp lq (was_done p p_other done_p) (was_done q q_other done_q) joins))
+        (s.least net valid part holds p q lp lq (was_done p p_other done_p) (was_done q q_other done_q) joins))
 
     pub swept_more : IsSwept v order entries n after (set done k true)
     swept_more = record {

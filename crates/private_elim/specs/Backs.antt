@@ -1,4 +1,4 @@
--- What the back sweep gives: bound_at, bound_between, IsPrivatePair, HoldsFinals, IsLeastIn.
+-- What the back sweep gives: bound_by_place, bound_between, IsPrivatePair, HoldsFinals, IsLeastIn.
 use Rattle.std.specs.Prelude.{◌≡◌, ℕ, ℤ, true, false, ◌||◌, Option, Some, None, slice_index_or, if◌then◌else◌}
 use Rattle.stn_model.specs.Net.{Net, point_count, arcs_of}
 use Rattle.stn_model.specs.Joined.{IsJoined}
@@ -13,15 +13,15 @@ use Rattle.private_elim.specs.Locals.{arcs_in, is_private_in, place_in}
 use Rattle.private_elim.specs.ReducedViews.{ReducedView, entry_in}
 
 -- the bound between two places of which one is private
-abbrev pub bound_at : PrivateBounds → Option ℕ → Option ℕ → Option ℤ
-bound_at b None q = None
-bound_at b (Some p) None = None
-bound_at b (Some p) (Some q) =
+abbrev pub bound_by_place : PrivateBounds → Option ℕ → Option ℕ → Option ℤ
+bound_by_place b None q = None
+bound_by_place b (Some p) None = None
+bound_by_place b (Some p) (Some q) =
     if slice_index_or b.private.items p false || slice_index_or b.private.items q false then weight_at (cell_at b.finals.size b.finals.slots.items p q) else None
 
 -- the bound between two points of which one is private
 abbrev pub bound_between : PrivateBounds → ℕ → ℕ → Option ℤ
-bound_between b i j = bound_at b (place_in b.points.items i) (place_in b.points.items j)
+bound_between b i j = bound_by_place b (place_in b.points.items i) (place_in b.points.items j)
 
 -- a joined pair of which one point is private: own arcs, taken without direction, have a path between them whose inner points come before
 -- both in the order; shared points and z come after all private ones

@@ -1,11 +1,16 @@
--- Laws about local problems: LocalsSeeNoMore, LocalsAreOwn.
-use Rattle.std.specs.Prelude.{◌≡◌, ℕ, true}
+-- Laws about local problems: LocalsSeeNoMore, LocalsAreOwn, IsSamePart, AreSwept, SweepsAgree.
+use Rattle.std.specs.Prelude.{◌≡◌, ℕ, ℤ, List, true, Option, is_some}
 use Rattle.std.specs.List.{All}
 use Rattle.stn_model.specs.Net.{Net}
+use Rattle.stn_model.specs.Valid.{IsNetwork}
 use Rattle.stn_model.specs.Conflicts.{own_arcs}
 use Rattle.stn_model.specs.Kinds.{kind_of, is_private_of}
 use Rattle.stn_model.specs.Summaries.{is_seen}
+use Rattle.elim_step.specs.declared.summary.SummaryEntry.{SummaryEntry}
 use Rattle.private_elim.specs.Locals.{points_of, numbered_own, local_of, all_numbered, arcs_in, is_private_in, is_seen_in}
+use Rattle.private_elim.specs.ReducedViews.{ReducedView}
+use Rattle.private_elim.specs.Reductions.{HasPart, OfPart}
+use Rattle.private_elim.specs.Backs.{IsPrivatePair, HoldsFinals, IsLeastIn}
 
 -- two networks in which an agent has the same points, of the same kinds, and the same own arcs under the same numbers, have the same local
 -- problem of that agent: nothing else of a network is in it
@@ -22,3 +27,24 @@ abbrev pub LocalsAreOwn : Type 0
 LocalsAreOwn =
     (net : Net) (agent : ℕ) → (all_numbered (local_of net agent).arcs ≡ true) × (arcs_in (local_of net agent) ≡ own_arcs net agent)
     × ((p : ℕ) → is_private_in (local_of net agent) p ≡ is_private_of net agent p) × ((p : ℕ) → is_seen_in (local_of net agent) p ≡ is_seen net agent p)
+
+-- the same points of one agent, of the same kinds, and the same own arcs, whatever their numbers, with the private points taken in the same order
+pub record IsSamePart (r s : ReducedView) : Type 0 where
+  pub agent : r.local.agent ≡ s.local.agent
+  pub points : r.local.points ≡ s.local.points
+  pub shared : r.local.shared ≡ s.local.shared
+  pub arcs : arcs_in r.local ≡ arcs_in s.local
+  pub order : r.order ≡ s.order
+
+-- the bounds that a back sweep gives: only private pairs have one, and theirs are least wherever the agent has the part and `finals` are least bounds
+pub record AreSwept (r : ReducedView) (finals : List SummaryEntry) (bounds : ℕ → ℕ → Option ℤ) : Type 0 where
+  pub only : (i j : ℕ) → is_some (bounds i j) ≡ true → IsPrivatePair r i j
+  pub least : OfPart r.local (λ net. HoldsFinals net r.local.agent finals → (i j : ℕ) → IsPrivatePair r i j → IsLeastIn net i j (bounds i j))
+
+-- where some network has the part and `finals` are least bounds, back sweeps of the same part in the same order agree on every pair
+abbrev pub SweepsAgree : Type 0
+SweepsAgree =
+    (r s : ReducedView) (finals : List SummaryEntry) (bounds others : ℕ → ℕ → Option ℤ) → IsSamePart r s
+    → AreSwept r finals bounds → AreSwept s finals others
+    → (net : Net) → IsNetwork net → HasPart net r.local → HoldsFinals net r.local.agent finals
+    → (i j : ℕ) → bounds i j ≡ others i j

@@ -10,7 +10,7 @@ use Rattle.elim_step.specs.Eliminates.{remains}
 use Rattle.elim_step.specs.Eliminated.{weight_at, point_at}
 use Rattle.private_elim.specs.Locals.{LocalView, arcs_in, private_at}
 use Rattle.private_elim.specs.ReducedViews.{entry_in}
-use Rattle.private_elim.specs.Reductions.{OfNetwork}
+use Rattle.private_elim.specs.Reductions.{OfPart}
 use Rattle.private_elim.specs.Backs.{HoldsFinals}
 
 -- two different places of the local problem, neither of them private
@@ -27,15 +27,15 @@ pub record HasGiven (v : LocalView) (entries : List SummaryEntry) (at : ℕ → 
   pub weights : (p q : ℕ) → IsSeenPlaces v p q → weight_at (at p q) ≡ entry_in entries (point_at v.points p) (point_at v.points q)
 
 -- The final cells once all private points but the first n of the order are revisited; `done` says which places are, among them those that are not
--- private. A cell with a private place stands between joined points. In each network in which the entries hold least bounds, the cell of each joined
--- pair of such places is the least weight of all walks.
+-- private. A cell with a private place stands between joined points. In each network in which the agent has this part and the entries hold least bounds,
+-- the cell of each joined pair of such places is the least weight of all walks.
 pub record IsSwept (v : LocalView) (order : List ℕ) (entries : List SummaryEntry) (n : ℕ) (at : ℕ → ℕ → Option Cell) (done : List Bool) : Type 0 where
   pub places : (p : ℕ) → p < length v.points → remains done p ≡ not (is_in (take n order) (point_at v.points p))
   pub len : length done ≡ length v.points
   pub ends : (p q : ℕ) → is_some (at p q) ≡ true → (remains done p ≡ true) × (remains done q ≡ true)
   pub pairs : (p q : ℕ) → is_some (at p q) ≡ true → (private_at v p || private_at v q) ≡ true → IsJoined (arcs_in v) order (point_at v.points p) (point_at v.points q)
   pub light : (p q : ℕ) → IfSome (at p q) (λ c. nat_abs c.weight ≤ 9007199254740992 + (length order - n) * 4503599627370496)
-  pub least : OfNetwork v (λ net. HoldsFinals net v.agent entries
+  pub least : OfPart v (λ net. HoldsFinals net v.agent entries
       → (p q : ℕ) → p < length v.points → q < length v.points → remains done p ≡ true → remains done q ≡ true
       → IsJoined (arcs_in v) order (point_at v.points p) (point_at v.points q)
       → IsInnerLeast (λ _. true) (arcs_of net) (point_at v.points p) (point_at v.points q) (weight_at (at p q)))

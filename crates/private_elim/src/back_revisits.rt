@@ -6,7 +6,7 @@ ghost use Rattle.elim_step.specs.declared.summary.SummaryEntry.{SummaryEntry};
 ghost use Rattle.elim_step.specs.Eliminated.{point_at};
 ghost use Rattle.private_elim.specs.Locals.{is_private_in};
 ghost use Rattle.private_elim.specs.Backs.{bound_between, IsPrivatePair, HoldsFinals, IsLeastIn};
-ghost use Rattle.private_elim.specs.Reductions.{OfNetwork};
+ghost use Rattle.private_elim.specs.Reductions.{OfPart};
 ghost use Rattle.private_elim.specs.Sweeps.{IsSwept};
 
 use crate::back::PrivateBounds;
@@ -92,7 +92,7 @@ impl Elimination {
         requires whole { (p : ℕ) → is_private_in self.now.local p ≡ true → is_in (reverse self.now.order) p ≡ true }
         ensures only { IfOk result (λ b. (summary : List SummaryEntry) (i j : ℕ) → is_some (bound_between b i j) ≡ true
             → IsPrivatePair (record { local = self.now.local; order = self.now.order; summary = summary }) i j) }
-        ensures least { IfOk result (λ b. OfNetwork self.now.local (λ net. HoldsFinals net self.now.local.agent entries
+        ensures least { IfOk result (λ b. OfPart self.now.local (λ net. HoldsFinals net self.now.local.agent entries
             → (summary : List SummaryEntry) (i j : ℕ) → IsPrivatePair (record { local = self.now.local; order = self.now.order; summary = summary }) i j
             → IsLeastIn net i j (bound_between b i j))) }
     {
@@ -112,14 +112,15 @@ impl Elimination {
 }
 
 /// The least bounds for each joined pair with a private point, where `finals` holds the least bound of each pair of the summary in a
-/// network whose local problem was reduced. The private points are revisited in the order opposite to that in which they were taken.
+/// network in which the agent has the points, the kinds and the own arcs of the local problem that was reduced, whatever the numbers of
+/// the arcs there. The private points are revisited in the order opposite to that in which they were taken.
 pub fn back_sweep(
     alloc: Global,
     reduced: &Reduced,
     finals: &Summary,
 ) -> Result<PrivateBounds, OutOfMemory>
     ensures only { IfOk result (λ b. (i j : ℕ) → is_some (bound_between b i j) ≡ true → IsPrivatePair reduced.now i j) }
-    ensures least { IfOk result (λ b. OfNetwork reduced.now.local (λ net. HoldsFinals net reduced.now.local.agent finals.now
+    ensures least { IfOk result (λ b. OfPart reduced.now.local (λ net. HoldsFinals net reduced.now.local.agent finals.now
         → (i j : ℕ) → IsPrivatePair reduced.now i j → IsLeastIn net i j (bound_between b i j))) }
 {
     // The summary is not read: with it comes the fact that all private points are taken.

@@ -1,5 +1,5 @@
 //! Laws about local problems, which no code keeps: functions with an empty body, whose contract is the law.
-ghost use Rattle.private_elim.specs.Laws.{LocalsSeeNoMore, LocalsAreOwn};
+ghost use Rattle.private_elim.specs.Laws.{LocalsSeeNoMore, LocalsAreOwn, SweepsAgree};
 
 /// An agent's local problem has nothing of the network but the agent's points, their kinds, and its own arcs with their numbers.
 pub fn locals_see_no_more()
@@ -10,4 +10,10 @@ pub fn locals_see_no_more()
 /// see, are the agent's.
 pub fn locals_are_own()
     ensures { LocalsAreOwn }
+{}
+
+/// Two back sweeps of the same points, kinds and own arcs of an agent, with its private points taken in the same order, give the same bounds
+/// from the same least bounds of a network with that part: the rest of the network, and so the numbers of the arcs, changes nothing.
+pub fn sweeps_agree()
+    ensures { SweepsAgree }
 {}

@@ -1,7 +1,7 @@
-use Rattle.std.proofs.Common.{◌≡◌, sym, subst}
+use Rattle.std.proofs.Common.{sym, subst}
 use Rattle.std.proofs.lemmas.Result.{IfOk-weaker}
-use Rattle.private_elim.specs.Locals.{local_of}
 use Rattle.private_elim.specs.ReducedViews.{ReducedView}
+use Rattle.private_elim.specs.Reductions.{HasPart}
 use Rattle.private_elim.specs.Backs.{IsPrivatePair, HoldsFinals}
 use Rattle.private_elim.proofs.back_revisits.back_sweep.Goals as goal
 
@@ -14,8 +14,8 @@ returns-clause-only c =
 pub returns-clause-least : goal.returns-clause-least
 returns-clause-least c =
     IfOk-weaker c.sweep.result _ _
-    (λ b least net valid is holds i j pair.
-    least net valid (subst (λ (r : ReducedView). r.local ≡ local_of net r.local.agent) (sym c.reduced.view_is) is)
+    (λ b least net valid part holds i j pair.
+    least net valid (subst (λ (r : ReducedView). HasPart net r.local) (sym c.reduced.view_is) part)
     (subst (λ (r : ReducedView). HoldsFinals net r.local.agent c.args.finals.now) (sym c.reduced.view_is) holds)
     c.reduced.inside.summary i j (subst (λ (r : ReducedView). IsPrivatePair r i j) (sym c.reduced.view_is) pair))
     c.sweep.ensures.least

@@ -1,8 +1,6 @@
-use Rattle.std.proofs.Common.{◌≡◌, length, sym, subst, ◌∙◌}
+use Rattle.std.proofs.Common.{◌≡◌, length, ◌∙◌}
 use Rattle.dist_rows.specs.Matrix.{cell_at}
 use Rattle.elim_step.specs.JoinedPlaces.{is_joined}
-use Rattle.private_elim.specs.Locals.{local_of}
-use Rattle.private_elim.specs.Taken.{TakenView}
 use Rattle.private_elim.proofs.Bounds.{pairs-from_rises, bounds_of}
 use Rattle.private_elim.proofs.LocalFacts.{rises}
 use Rattle.private_elim.proofs.SweepEnds.{swept_only, swept_least}
@@ -34,11 +32,11 @@ returns-clause-only g c summary i j some =
     c.in_ok-points.ensures.points c.in_ok-private.ensures.each c.revisit_all.new.done.items (rw (← c.self.view_is) at c.in_ok-revisit_all.ensures.swept) i j some)
 
 pub returns-clause-least : goal.returns-clause-least
-returns-clause-least g c net valid is holds summary i j pair =
+returns-clause-least g c net valid part holds summary i j pair =
     let e = c.self.inside in
     let square : c.revisit_all.new.finals.size ≡ length e.local.points = c.revisit_all.ensures.size ∙ c.in_ok-finals.ensures.size in
     let rising = pairs-from_rises e.local.points (rises e.local c.self.invariant.taken.known) in
     let b = bounds_of c.in_ok-points.points c.in_ok-private.private c.revisit_all.new.finals e.local.points c.in_ok-points.ensures.points rising c.in_ok-private.ensures.len square in
     swept_least e.local (order_of e) (rows_of e) (is_joined e.joins) e.remain.items c.self.invariant.taken g.entries summary b
     c.in_ok-points.ensures.points c.in_ok-private.ensures.each c.revisit_all.new.done.items (rw (← c.self.view_is) at c.in_ok-revisit_all.ensures.swept)
-    net valid (subst (λ (w : TakenView). w.local ≡ local_of net w.local.agent) (sym c.self.view_is) is) (rw (← c.self.view_is) at holds) i j (rw (← c.self.view_is) at pair)
+    net valid (rw (← c.self.view_is) at part) (rw (← c.self.view_is) at holds) i j (rw (← c.self.view_is) at pair)

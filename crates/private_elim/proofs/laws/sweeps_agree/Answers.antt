@@ -1,0 +1,5 @@
+use Rattle.private_elim.proofs.SameParts.{sweeps_same}
+use Rattle.private_elim.proofs.laws.sweeps_agree.Goals as goal
+
+pub returns : goal.returns
+returns c = sweeps_same
