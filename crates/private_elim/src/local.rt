@@ -135,7 +135,7 @@ impl Local {
     }
 
     /// Whether the point at a place is private: not the reference point, and not shared.
-    pub(crate) fn is_private(&self, place: u32) -> bool
+    pub fn is_private(&self, place: u32) -> bool
         requires { place < length self.now.points }
         ensures { result ≡ private_at self.now place }
     {
@@ -159,7 +159,7 @@ impl Local {
     }
 
     /// The place of a point; None exactly where it is no point of the local problem.
-    pub(crate) fn place_of(&self, point: PointId) -> Option<u32>
+    pub fn place_of(&self, point: PointId) -> Option<u32>
         ensures { result ≡ place_in self.now.points point.0 }
     {
         match self.points.binary_search(&point.0) {

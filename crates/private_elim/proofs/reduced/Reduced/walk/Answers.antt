@@ -1,6 +1,6 @@
 use Rattle.std.proofs.Common.{◌≡◌, ℤ, Some, ap, sym, ◌∙◌, subst}
 use Rattle.std.specs.Prelude.{is_some}
-use Rattle.stn_model.specs.Net.{Net, arcs_of}
+use Rattle.stn_model.specs.Net.{arcs_of}
 use Rattle.stn_model.specs.Walks.{weight}
 use Rattle.private_elim.specs.ReducedViews.{ReducedView, IsWeightBetween, weight_between}
 use Rattle.private_elim.proofs.Between.{between_from, between_to}

@@ -1,0 +1,180 @@
+//! Networks worked by hand.
+use crate::asked::{in_order, narrowed, walk_of};
+use crate::build::{build, by_degree, by_key, entry, handover, local_of, reduced, summary_of};
+use crate::compare::{has_arcs, has_order, has_walk, is_conflict, swept, tells, weighs};
+use private_elim::back_sweep;
+use std::test::Fail;
+use stn_model::PointId;
+
+#[test]
+fn handover_is_reduced(rt: HostRuntime) -> Result<(), Fail> {
+    let alloc = rt.alloc();
+    let net = handover(alloc)?;
+    let ann = reduced(by_degree(alloc, &net, 0)?)?.copy(alloc)?;
+    has_order(&rt, &ann, [1].as_slice());
+    tells(&rt, &ann, [entry(0, 2, 60), entry(2, 0, -30)].as_slice());
+    has_walk(&rt, &walk_of(alloc, &ann, 0, 2)?, [8, 9].as_slice());
+    let bob = reduced(by_degree(alloc, &net, 1)?)?;
+    has_order(&rt, &bob, [4].as_slice());
+    tells(&rt, &bob, [entry(0, 3, 90), entry(3, 0, 0)].as_slice());
+    Ok(())
+}
+
+#[test]
+fn handover_has_forward_weights(rt: HostRuntime) -> Result<(), Fail> {
+    let alloc = rt.alloc();
+    let ann = reduced(by_degree(alloc, &handover(alloc)?, 0)?)?;
+    let there = [
+        (0, 1, 20),
+        (1, 0, 0),
+        (0, 2, 60),
+        (2, 0, -30),
+        (1, 2, 40),
+        (2, 1, -30),
+    ];
+    weighs(&rt, &ann, there.as_slice());
+    has_walk(&rt, &walk_of(alloc, &ann, 0, 1)?, [8].as_slice());
+    Ok(())
+}
+
+#[test]
+fn handover_is_swept_back(rt: HostRuntime) -> Result<(), Fail> {
+    let alloc = rt.alloc();
+    let ann = reduced(by_degree(alloc, &handover(alloc)?, 0)?)?;
+    let finals = summary_of(alloc, [entry(0, 2, 60), entry(2, 0, -30)].as_slice())?;
+    let bounds = back_sweep(alloc, &ann, &finals)?.copy(alloc)?;
+    let told = [
+        (0, 1, Some(20)),
+        (1, 0, Some(0)),
+        (1, 2, Some(40)),
+        (2, 1, Some(-30)),
+        (0, 2, None),
+        (1, 1, None),
+        (1, 3, None),
+    ];
+    swept(&rt, &bounds, told.as_slice());
+    Ok(())
+}
+
+#[test]
+fn negative_cycles_are_conflicts(rt: HostRuntime) -> Result<(), Fail> {
+    let alloc = rt.alloc();
+    let pair = build(
+        alloc,
+        10,
+        [0, 0].as_slice(),
+        [(1, 2, 3), (2, 1, -5)].as_slice(),
+    )?;
+    let order = [PointId(1), PointId(2)];
+    let outcome = in_order(alloc, &local_of(alloc, &pair, 0)?, order.as_slice())?;
+    is_conflict(&rt, outcome, [4, 5].as_slice(), 0, 2);
+    // The reference point may be on the cycle.
+    let early = build(
+        alloc,
+        10,
+        [0, 0].as_slice(),
+        [(2, 0, -7), (0, 2, 6)].as_slice(),
+    )?;
+    is_conflict(&rt, by_degree(alloc, &early, 0)?, [4, 5].as_slice(), 1, 0);
+    Ok(())
+}
+
+// A cycle of three points, none of whose pairs is one: it shows when the second is taken.
+#[test]
+fn a_ring_is_a_conflict(rt: HostRuntime) -> Result<(), Fail> {
+    let alloc = rt.alloc();
+    let arcs = [(1, 2, 5), (2, 3, 5), (3, 1, -11)];
+    let ring = build(alloc, 100, [0, 0, 0].as_slice(), arcs.as_slice())?;
+    let order = [PointId(1), PointId(2), PointId(3)];
+    let outcome = in_order(alloc, &local_of(alloc, &ring, 0)?, order.as_slice())?;
+    is_conflict(&rt, outcome, [6, 7, 8].as_slice(), 1, 3);
+    Ok(())
+}
+
+#[test]
+fn a_cycle_of_weight_0_is_none(rt: HostRuntime) -> Result<(), Fail> {
+    let alloc = rt.alloc();
+    let zero = build(
+        alloc,
+        10,
+        [0, 0].as_slice(),
+        [(1, 2, 3), (2, 1, -3)].as_slice(),
+    )?;
+    let part = reduced(by_degree(alloc, &zero, 0)?)?;
+    has_order(&rt, &part, [1, 2].as_slice());
+    tells(&rt, &part, [].as_slice());
+    Ok(())
+}
+
+// Two of the points are shared: a negative cycle through both is not the agent's alone.
+#[test]
+fn a_cycle_of_two_shared_points_is_none(rt: HostRuntime) -> Result<(), Fail> {
+    let alloc = rt.alloc();
+    let arcs = [(1, 2, 3), (2, 1, -5), (1, 3, 5), (2, 3, 5)];
+    let shared = build(alloc, 10, [0, 0, 1].as_slice(), arcs.as_slice())?;
+    let part = reduced(by_degree(alloc, &shared, 0)?)?;
+    let told = [
+        entry(0, 1, 10),
+        entry(0, 2, 10),
+        entry(1, 0, 0),
+        entry(1, 2, 3),
+        entry(2, 0, 0),
+        entry(2, 1, -5),
+    ];
+    tells(&rt, &part, told.as_slice());
+    Ok(())
+}
+
+#[test]
+fn pickers_choose_the_order(rt: HostRuntime) -> Result<(), Fail> {
+    let alloc = rt.alloc();
+    let free = build(alloc, 10, [0, 0].as_slice(), [].as_slice())?;
+    let part = reduced(by_key(alloc, &local_of(alloc, &free, 0)?, false)?)?;
+    has_order(&rt, &part, [2, 1].as_slice());
+    // Once point 1 is taken, 2 and 3 are joined through it, though no walk leads from one to the other.
+    let arcs = [(2, 1, 5), (3, 1, 7)];
+    let net = build(alloc, 10, [0, 0, 0, 0].as_slice(), arcs.as_slice())?;
+    let part = reduced(by_key(alloc, &local_of(alloc, &net, 0)?, true)?)?;
+    has_order(&rt, &part, [1, 4, 2, 3].as_slice());
+    Ok(())
+}
+
+// Point 1 is private, and 2 and 3 are shared: they are joined, and no walk leads through point 1.
+#[test]
+fn a_pair_without_a_walk_has_the_horizon(rt: HostRuntime) -> Result<(), Fail> {
+    let alloc = rt.alloc();
+    let arcs = [(2, 1, 5), (3, 1, 7), (2, 4, 9), (3, 4, 9)];
+    let net = build(alloc, 50, [0, 0, 0, 1].as_slice(), arcs.as_slice())?;
+    let part = reduced(by_degree(alloc, &net, 0)?)?;
+    let told = [
+        entry(0, 2, 50),
+        entry(0, 3, 50),
+        entry(2, 0, 0),
+        entry(2, 3, 50),
+        entry(3, 0, 0),
+        entry(3, 2, 50),
+    ];
+    tells(&rt, &part, told.as_slice());
+    has_walk(&rt, &walk_of(alloc, &part, 2, 3)?, [3, 4].as_slice());
+    Ok(())
+}
+
+#[test]
+fn local_problems_have_own_arcs(rt: HostRuntime) -> Result<(), Fail> {
+    let alloc = rt.alloc();
+    let ann = local_of(alloc, &handover(alloc)?, 0)?.copy(alloc)?;
+    let arcs = [
+        (Some(0), 0, 1, 100),
+        (Some(1), 1, 0, 0),
+        (Some(2), 0, 2, 100),
+        (Some(3), 2, 0, 0),
+        (Some(8), 0, 1, 20),
+        (Some(9), 1, 2, 40),
+        (Some(10), 2, 1, -30),
+    ];
+    has_arcs(&rt, &ann, 0, arcs.as_slice());
+    let narrow = narrowed(alloc, &ann, 2, 30, 60)?;
+    let added = [(None, 0, 2, 60), (None, 2, 0, -30)];
+    has_arcs(&rt, &narrow, 7, added.as_slice());
+    Ok(())
+}
