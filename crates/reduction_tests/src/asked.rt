@@ -1,5 +1,5 @@
 //! Calls whose conditions are tested first.
-ghost use Rattle.std.specs.Prelude.{◌≡◌, ◌<◌, ℕ, true, IfOk, length, map, slice_index_or};
+ghost use Rattle.std.specs.Prelude.{◌≡◌, ◌<◌, ◌||◌, ℕ, true, IfOk, length, map, slice_index_or};
 ghost use Rattle.std.specs.List.{AllByRecursion};
 ghost use Rattle.stn_model.specs.Walks.{AllDifferent};
 ghost use Rattle.stn_walk.specs.Eliminations.{is_in};
@@ -23,13 +23,20 @@ fn is_private(local: &Local, point: PointId) -> bool
     local.is_private(place)
 }
 
+// Whether one of two tests passes.
+fn either(first: bool, second: bool) -> bool
+    ensures { result ≡ (first || second) }
+{
+    first || second
+}
+
 // Whether a point is listed.
 fn is_listed(points: &[PointId], point: PointId) -> bool
     ensures { result ≡ is_in (map (λ p. p.0) points.now) point.0 }
 {
     let mut listed = false;
     for p in points {
-        listed = listed || point.0 == p.0;
+        listed = either(listed, point.0 == p.0);
     }
     listed
 }
@@ -98,7 +105,7 @@ pub fn walk_of(alloc: Global, reduced: &Reduced, i: u32, j: u32) -> Result<Walk,
     let (i, j) = (PointId(i), PointId(j));
     let entry = weight_in(reduced.summary().entries(), i, j);
     let forward = reduced.forward(i, j);
-    if entry.is_none() && forward.is_none() {
+    if !either(entry.is_some(), forward.is_some()) {
         return Err(Fail::new("no walk"));
     }
     let walk = reduced.walk(alloc, i, j)?;
