@@ -1,5 +1,5 @@
 //! Calls whose conditions are tested first.
-ghost use Rattle.std.specs.Prelude.{◌≡◌, ◌<◌, ◌||◌, ℕ, true, IfOk, length, map, slice_index_or};
+ghost use Rattle.std.specs.Prelude.{◌≡◌, ◌||◌, ℕ, true, map};
 ghost use Rattle.std.specs.List.{AllByRecursion};
 ghost use Rattle.stn_model.specs.Walks.{AllDifferent};
 ghost use Rattle.stn_walk.specs.Eliminations.{is_in};

@@ -1,4 +1,7 @@
 //! A plain slow program beside the elimination: least weights by rounds over all arcs.
+ghost use Rattle.std.specs.Prelude.{◌≡◌, true};
+ghost use Rattle.private_elim.specs.Locals.{all_numbered};
+
 use crate::asked::in_order;
 use crate::build::{build, by_factor, entry, local_of, reduced, summary_of};
 use private_elim::{Local, PrivateOutcome, Reduced, back_sweep};
@@ -165,27 +168,73 @@ fn some_arcs(alloc: Global, mut seed: u64) -> Result<Vec<(u32, u32, i64)>, Fail>
     Ok(arcs)
 }
 
-// Compares the elimination of ann's points with the slow program; whether there is a conflict, and whether a sweep was compared.
-fn compare(rt: &impl Abort, alloc: Global, seed: u64) -> Result<(bool, bool), Fail> {
+// Takes the points again in the order in which they were taken, and compares.
+fn agrees_listed(rt: &impl Abort, alloc: Global, local: &Local, part: &Reduced) -> Result<(), Fail>
+    requires { all_numbered local.now.arcs ≡ true }
+{
+    let listed = reduced(in_order(alloc, local, part.order())?)?;
+    assert_eq!(rt; listed.order(), part.order());
+    assert_eq!(rt; listed.summary().entries(), part.summary().entries());
+    Ok(())
+}
+
+// Compares a part of a network without a conflict; whether a sweep was compared too.
+fn agrees_whole(
+    rt: &impl Abort,
+    alloc: Global,
+    net: &Network,
+    local: &Local,
+    part: &Reduced,
+) -> Result<bool, Fail>
+    requires { all_numbered local.now.arcs ≡ true }
+{
+    agrees(rt, alloc, local, part)?;
+    agrees_listed(rt, alloc, local, part)?;
+    if has_negative(&all_arcs(alloc, net)?, &[true; 8]) {
+        return Ok(false);
+    }
+    agrees_back(rt, alloc, net, local, part)?;
+    Ok(true)
+}
+
+// Whether an agent's own arcs have a negative cycle, by the slow program.
+fn has_conflict(alloc: Global, local: &Local) -> Result<bool, Fail> {
+    let (arcs, _) = arcs_of(alloc, local)?;
+    Ok(has_negative(&arcs, &privates(local)))
+}
+
+// A network of ann's points 1 to 5 and bob's 6.
+fn some_net(alloc: Global, seed: u64) -> Result<Network, Fail> {
     let arcs = some_arcs(alloc, seed)?;
-    let net = build(alloc, 100, [0, 0, 0, 0, 0, 1].as_slice(), arcs.as_slice())?;
-    let local = local_of(alloc, &net, 0)?;
-    let (arcs, _) = arcs_of(alloc, &local)?;
-    let conflict = has_negative(&arcs, &privates(&local));
-    let PrivateOutcome::Reduced(part) = by_factor(alloc, &local, seed)? else {
+    build(alloc, 100, [0, 0, 0, 0, 0, 1].as_slice(), arcs.as_slice())
+}
+
+// Compares the elimination of a local problem's points with the slow program; whether there is a conflict, and whether a sweep was compared.
+fn compare_local(
+    rt: &impl Abort,
+    alloc: Global,
+    net: &Network,
+    local: &Local,
+    factor: u64,
+) -> Result<(bool, bool), Fail>
+    requires { all_numbered local.now.arcs ≡ true }
+{
+    let conflict = has_conflict(alloc, local)?;
+    let outcome = by_factor(alloc, local, factor)?;
+    let PrivateOutcome::Reduced(part) = &outcome else {
         assert!(rt; conflict);
         return Ok((true, false));
     };
     assert!(rt; !conflict);
-    agrees(rt, alloc, &local, &part)?;
-    let listed = reduced(in_order(alloc, &local, part.order())?)?;
-    assert_eq!(rt; listed.order(), part.order());
-    assert_eq!(rt; listed.summary().entries(), part.summary().entries());
-    let sweeps = !has_negative(&all_arcs(alloc, &net)?, &[true; 8]);
-    if sweeps {
-        agrees_back(rt, alloc, &net, &local, &part)?;
-    }
-    Ok((false, sweeps))
+    let swept = agrees_whole(rt, alloc, net, local, part)?;
+    Ok((false, swept))
+}
+
+// The same for ann's points of the network of a seed.
+fn compare(rt: &impl Abort, alloc: Global, seed: u64) -> Result<(bool, bool), Fail> {
+    let net = some_net(alloc, seed)?;
+    let local = local_of(alloc, &net, 0)?;
+    compare_local(rt, alloc, &net, &local, seed)
 }
 
 #[test]

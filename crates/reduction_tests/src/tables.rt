@@ -2,28 +2,50 @@
 use crate::asked::{in_order, narrowed, walk_of};
 use crate::build::{build, by_degree, by_key, entry, handover, local_of, reduced, summary_of};
 use crate::compare::{has_arcs, has_order, has_walk, is_conflict, swept, tells, weighs};
-use private_elim::back_sweep;
+use private_elim::{PrivateBounds, Reduced, back_sweep};
+use std::alloc::Global;
 use std::test::Fail;
 use stn_model::PointId;
 
+// Ann's part of the handover, reduced.
+fn anns_part(alloc: Global) -> Result<Reduced, Fail> {
+    reduced(by_degree(alloc, &handover(alloc)?, 0)?)
+}
+
 #[test]
-fn handover_is_reduced(rt: HostRuntime) -> Result<(), Fail> {
-    let alloc = rt.alloc();
-    let net = handover(alloc)?;
-    let ann = reduced(by_degree(alloc, &net, 0)?)?.copy(alloc)?;
+fn anns_part_is_reduced(rt: HostRuntime) -> Result<(), Fail> {
+    let ann = anns_part(rt.alloc())?;
     has_order(&rt, &ann, [1].as_slice());
     tells(&rt, &ann, [entry(0, 2, 60), entry(2, 0, -30)].as_slice());
-    has_walk(&rt, &walk_of(alloc, &ann, 0, 2)?, [8, 9].as_slice());
-    let bob = reduced(by_degree(alloc, &net, 1)?)?;
+    Ok(())
+}
+
+#[test]
+fn a_copy_tells_the_same(rt: HostRuntime) -> Result<(), Fail> {
+    let ann = anns_part(rt.alloc())?.copy(rt.alloc())?;
+    tells(&rt, &ann, [entry(0, 2, 60), entry(2, 0, -30)].as_slice());
+    Ok(())
+}
+
+#[test]
+fn bobs_part_is_reduced(rt: HostRuntime) -> Result<(), Fail> {
+    let bob = reduced(by_degree(rt.alloc(), &handover(rt.alloc())?, 1)?)?;
     has_order(&rt, &bob, [4].as_slice());
     tells(&rt, &bob, [entry(0, 3, 90), entry(3, 0, 0)].as_slice());
     Ok(())
 }
 
 #[test]
-fn handover_has_forward_weights(rt: HostRuntime) -> Result<(), Fail> {
-    let alloc = rt.alloc();
-    let ann = reduced(by_degree(alloc, &handover(alloc)?, 0)?)?;
+fn ann_has_walks(rt: HostRuntime) -> Result<(), Fail> {
+    let ann = anns_part(rt.alloc())?;
+    has_walk(&rt, &walk_of(rt.alloc(), &ann, 0, 2)?, [8, 9].as_slice());
+    has_walk(&rt, &walk_of(rt.alloc(), &ann, 0, 1)?, [8].as_slice());
+    Ok(())
+}
+
+#[test]
+fn ann_has_forward_weights(rt: HostRuntime) -> Result<(), Fail> {
+    let ann = anns_part(rt.alloc())?;
     let there = [
         (0, 1, 20),
         (1, 0, 0),
@@ -33,16 +55,19 @@ fn handover_has_forward_weights(rt: HostRuntime) -> Result<(), Fail> {
         (2, 1, -30),
     ];
     weighs(&rt, &ann, there.as_slice());
-    has_walk(&rt, &walk_of(alloc, &ann, 0, 1)?, [8].as_slice());
     Ok(())
 }
 
-#[test]
-fn handover_is_swept_back(rt: HostRuntime) -> Result<(), Fail> {
-    let alloc = rt.alloc();
-    let ann = reduced(by_degree(alloc, &handover(alloc)?, 0)?)?;
+// Ann's bounds after the back sweep from the least bounds of the handover between the points that others see.
+fn anns_bounds(alloc: Global) -> Result<PrivateBounds, Fail> {
     let finals = summary_of(alloc, [entry(0, 2, 60), entry(2, 0, -30)].as_slice())?;
-    let bounds = back_sweep(alloc, &ann, &finals)?.copy(alloc)?;
+    let bounds = back_sweep(alloc, &anns_part(alloc)?, &finals)?;
+    Ok(bounds)
+}
+
+#[test]
+fn ann_is_swept_back(rt: HostRuntime) -> Result<(), Fail> {
+    let bounds = anns_bounds(rt.alloc())?.copy(rt.alloc())?;
     let told = [
         (0, 1, Some(20)),
         (1, 0, Some(0)),
@@ -57,25 +82,21 @@ fn handover_is_swept_back(rt: HostRuntime) -> Result<(), Fail> {
 }
 
 #[test]
-fn negative_cycles_are_conflicts(rt: HostRuntime) -> Result<(), Fail> {
-    let alloc = rt.alloc();
-    let pair = build(
-        alloc,
-        10,
-        [0, 0].as_slice(),
-        [(1, 2, 3), (2, 1, -5)].as_slice(),
-    )?;
-    let order = [PointId(1), PointId(2)];
-    let outcome = in_order(alloc, &local_of(alloc, &pair, 0)?, order.as_slice())?;
+fn a_negative_cycle_is_a_conflict(rt: HostRuntime) -> Result<(), Fail> {
+    let arcs = [(1, 2, 3), (2, 1, -5)];
+    let pair = build(rt.alloc(), 10, [0, 0].as_slice(), arcs.as_slice())?;
+    let outcome = by_degree(rt.alloc(), &pair, 0)?;
     is_conflict(&rt, outcome, [4, 5].as_slice(), 0, 2);
-    // The reference point may be on the cycle.
-    let early = build(
-        alloc,
-        10,
-        [0, 0].as_slice(),
-        [(2, 0, -7), (0, 2, 6)].as_slice(),
-    )?;
-    is_conflict(&rt, by_degree(alloc, &early, 0)?, [4, 5].as_slice(), 1, 0);
+    Ok(())
+}
+
+// The reference point may be on the cycle.
+#[test]
+fn a_cycle_through_z_is_a_conflict(rt: HostRuntime) -> Result<(), Fail> {
+    let arcs = [(2, 0, -7), (0, 2, 6)];
+    let early = build(rt.alloc(), 10, [0, 0].as_slice(), arcs.as_slice())?;
+    let outcome = by_degree(rt.alloc(), &early, 0)?;
+    is_conflict(&rt, outcome, [4, 5].as_slice(), 1, 0);
     Ok(())
 }
 
@@ -126,15 +147,19 @@ fn a_cycle_of_two_shared_points_is_none(rt: HostRuntime) -> Result<(), Fail> {
 }
 
 #[test]
-fn pickers_choose_the_order(rt: HostRuntime) -> Result<(), Fail> {
-    let alloc = rt.alloc();
-    let free = build(alloc, 10, [0, 0].as_slice(), [].as_slice())?;
-    let part = reduced(by_key(alloc, &local_of(alloc, &free, 0)?, false)?)?;
+fn a_picker_chooses_the_order(rt: HostRuntime) -> Result<(), Fail> {
+    let free = build(rt.alloc(), 10, [0, 0].as_slice(), [].as_slice())?;
+    let part = reduced(by_key(rt.alloc(), &local_of(rt.alloc(), &free, 0)?, false)?)?;
     has_order(&rt, &part, [2, 1].as_slice());
-    // Once point 1 is taken, 2 and 3 are joined through it, though no walk leads from one to the other.
+    Ok(())
+}
+
+// Once point 1 is taken, 2 and 3 are joined through it, though no walk leads from one to the other.
+#[test]
+fn degrees_count_joined_points(rt: HostRuntime) -> Result<(), Fail> {
     let arcs = [(2, 1, 5), (3, 1, 7)];
-    let net = build(alloc, 10, [0, 0, 0, 0].as_slice(), arcs.as_slice())?;
-    let part = reduced(by_key(alloc, &local_of(alloc, &net, 0)?, true)?)?;
+    let net = build(rt.alloc(), 10, [0, 0, 0, 0].as_slice(), arcs.as_slice())?;
+    let part = reduced(by_key(rt.alloc(), &local_of(rt.alloc(), &net, 0)?, true)?)?;
     has_order(&rt, &part, [1, 4, 2, 3].as_slice());
     Ok(())
 }

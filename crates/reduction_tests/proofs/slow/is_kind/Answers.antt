@@ -1,0 +1,6 @@
+use Rattle.std.proofs.Common.{◌≡◌, sym, ◌∙◌}
+use Rattle.private_elim.proofs.Places.{place_found}
+use Rattle.reduction_tests.proofs.slow.is_kind.Goals as goal
+
+pub is_private-requires : goal.is_private-requires
+is_private-requires c = (place_found c.args.local.now.points c.args.point c.in-Some.place (sym c.place_of.ensures ∙ c.in-Some.is)).0
