@@ -1,20 +1,15 @@
-//! Calls whose conditions are tested first.
-ghost use Rattle.std.specs.Prelude.{◌≡◌, ◌||◌, ℕ, true, map};
-ghost use Rattle.std.specs.List.{AllByRecursion};
-ghost use Rattle.stn_model.specs.Walks.{AllDifferent};
+//! Questions on lists of points and of entries, by which the conditions of calls are tested before they are made.
+ghost use Rattle.std.specs.Prelude.{◌≡◌, ◌||◌, map};
 ghost use Rattle.stn_walk.specs.Eliminations.{is_in};
-ghost use Rattle.private_elim.specs.Locals.{all_numbered, is_private_in};
+ghost use Rattle.private_elim.specs.Locals.{is_private_in};
 ghost use Rattle.private_elim.specs.ReducedViews.{entry_in};
 
-use elim_step::{SummaryEntry, Window};
-use private_elim::{Local, PrivateOutcome, Reduced, eliminate_listed};
-use std::alloc::Global;
-use std::test::Fail;
+use elim_step::SummaryEntry;
+use private_elim::Local;
 use stn_model::PointId;
-use stn_walk::Walk;
 
-// Whether a point is private.
-fn is_private(local: &Local, point: PointId) -> bool
+/// Whether a point is one of a local problem's private points.
+pub fn is_private(local: &Local, point: PointId) -> bool
     ensures { result ≡ is_private_in local.now point.0 }
 {
     let Some(place) = local.place_of(point) else {
@@ -23,15 +18,15 @@ fn is_private(local: &Local, point: PointId) -> bool
     local.is_private(place)
 }
 
-// Whether one of two tests passes.
-fn either(first: bool, second: bool) -> bool
+/// Whether one of two tests passes.
+pub fn either(first: bool, second: bool) -> bool
     ensures { result ≡ (first || second) }
 {
     first || second
 }
 
-// Whether a point is listed.
-fn is_listed(points: &[PointId], point: PointId) -> bool
+/// Whether a point is listed.
+pub fn is_listed(points: &[PointId], point: PointId) -> bool
     ensures { result ≡ is_in (map (λ p. p.0) points.now) point.0 }
 {
     let mut listed = false;
@@ -41,55 +36,8 @@ fn is_listed(points: &[PointId], point: PointId) -> bool
     listed
 }
 
-// Whether each of these points is private.
-fn are_private(local: &Local, order: &[PointId]) -> bool
-    ensures { result ≡ true → AllByRecursion (λ p. is_private_in local.now p.0 ≡ true) order.now }
-{
-    for p in order {
-        if !is_private(local, *p) {
-            return false;
-        }
-    }
-    true
-}
-
-// Whether no point is listed twice.
-fn are_different(order: &[PointId]) -> bool
-    ensures { result ≡ true → AllDifferent (map (λ p. p.0) order.now) }
-{
-    for n in 0..order.len() {
-        if is_listed(&order[..n], order[n]) {
-            return false;
-        }
-    }
-    true
-}
-
-// Whether each private point is listed.
-fn are_whole(local: &Local, order: &[PointId]) -> bool
-    ensures { result ≡ true → (p : ℕ) → is_private_in local.now p ≡ true → is_in (map (λ p. p.0) order.now) p ≡ true }
-{
-    for place in 0..local.size() {
-        if local.is_private(place) && !is_listed(order, local.point(place)) {
-            return false;
-        }
-    }
-    true
-}
-
-/// The private points taken in a given order.
-pub fn in_order(alloc: Global, local: &Local, order: &[PointId]) -> Result<PrivateOutcome, Fail>
-    requires { all_numbered local.now.arcs ≡ true }
-{
-    if !are_private(local, order) || !are_different(order) || !are_whole(local, order) {
-        return Err(Fail::new("no order"));
-    }
-    let outcome = eliminate_listed(alloc, local, order)?;
-    Ok(outcome)
-}
-
-// The weight of the entry of a pair.
-fn weight_in(entries: &[SummaryEntry], i: PointId, j: PointId) -> Option<i128>
+/// The weight of the first entry of a pair; None where it has none.
+pub fn weight_in(entries: &[SummaryEntry], i: PointId, j: PointId) -> Option<i128>
     ensures { result ≡ entry_in entries.now i.0 j.0 }
 {
     for entry in entries {
@@ -98,39 +46,4 @@ fn weight_in(entries: &[SummaryEntry], i: PointId, j: PointId) -> Option<i128>
         }
     }
     None
-}
-
-/// The walk of a pair.
-pub fn walk_of(alloc: Global, reduced: &Reduced, i: u32, j: u32) -> Result<Walk, Fail> {
-    let (i, j) = (PointId(i), PointId(j));
-    let entry = weight_in(reduced.summary().entries(), i, j);
-    let forward = reduced.forward(i, j);
-    if !either(entry.is_some(), forward.is_some()) {
-        return Err(Fail::new("no walk"));
-    }
-    let walk = reduced.walk(alloc, i, j)?;
-    Ok(walk)
-}
-
-/// A local problem narrowed to a window of one point.
-pub fn narrowed(
-    alloc: Global,
-    local: &Local,
-    point: u32,
-    lo: i128,
-    hi: i128,
-) -> Result<Local, Fail> {
-    if point == 0 || lo < 0 || 1_000 < lo || hi < 0 || 1_000 < hi {
-        return Err(Fail::new("no window"));
-    }
-    let Some(_) = local.place_of(PointId(point)) else {
-        return Err(Fail::new("no point"));
-    };
-    let window = Window {
-        point: PointId(point),
-        lo,
-        hi,
-    };
-    let narrow = local.narrowed(alloc, [window].as_slice())?;
-    Ok(narrow)
 }

@@ -2,10 +2,11 @@
 //! so that a change of a test proves nothing else anew.
 #![tactic(auto)]
 
-#[cfg(test)]
-mod asked;
+pub mod asked;
 #[cfg(test)]
 mod build;
+#[cfg(test)]
+mod calls;
 #[cfg(test)]
 mod compare;
 #[cfg(test)]

@@ -2,8 +2,8 @@
 ghost use Rattle.std.specs.Prelude.{◌≡◌, true};
 ghost use Rattle.private_elim.specs.Locals.{all_numbered};
 
-use crate::asked::in_order;
 use crate::build::{build, by_factor, entry, local_of, reduced, summary_of};
+use crate::calls::in_order;
 use private_elim::{Local, PrivateOutcome, Reduced, back_sweep};
 use std::alloc::Global;
 use std::process::Abort;

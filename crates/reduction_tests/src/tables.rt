@@ -1,6 +1,6 @@
 //! Networks worked by hand.
-use crate::asked::{in_order, narrowed, walk_of};
 use crate::build::{build, by_degree, by_key, entry, handover, local_of, reduced, summary_of};
+use crate::calls::{in_order, narrowed, walk_of};
 use crate::compare::{has_arcs, has_order, has_walk, is_conflict, swept, tells, weighs};
 use private_elim::{PrivateBounds, Reduced, back_sweep};
 use std::alloc::Global;

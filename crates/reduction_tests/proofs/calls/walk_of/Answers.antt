@@ -1,7 +1,7 @@
 use Rattle.std.proofs.Common.{◌≡◌, ◌||◌, true, ap, sym, ◌∙◌}
 use Rattle.private_elim.specs.ReducedViews.{entry_in}
 use Rattle.reduction_tests.proofs.Listed.{weight_there}
-use Rattle.reduction_tests.proofs.asked.walk_of.Goals as goal
+use Rattle.reduction_tests.proofs.calls.walk_of.Goals as goal
 
 pub walk-requires : goal.walk-requires
 walk-requires c =

@@ -1,7 +1,7 @@
 use Rattle.std.proofs.Common.{◌≡◌, sym, ◌∙◌, arith}
 use Rattle.std.proofs.lemmas.Int.{ints}
 use Rattle.reduction_tests.proofs.Listed.{placed_contained, window_at}
-use Rattle.reduction_tests.proofs.asked.narrowed.Goals as goal
+use Rattle.reduction_tests.proofs.calls.narrowed.Goals as goal
 
 pub narrowed-requires : goal.narrowed-requires
 narrowed-requires c =

@@ -1,7 +1,7 @@
 use Rattle.std.proofs.Common.{◌≡◌, ap, sym, ◌∙◌, arith, map}
 use Rattle.stn_model.specs.declared.ids.PointId.{PointId}
 use Rattle.reduction_tests.proofs.Listed.{whole_from_places, places_more}
-use Rattle.reduction_tests.proofs.asked.are_whole.Goals as goal
+use Rattle.reduction_tests.proofs.calls.are_whole.Goals as goal
 
 pub returns : goal.returns
 returns c t =
