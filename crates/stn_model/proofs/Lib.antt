@@ -7,3 +7,4 @@ pub mod FlagLemmas
 pub mod NameLemmas
 pub mod ValidLemmas
 pub mod FindLemmas
+pub mod ActLemmas

@@ -15,9 +15,10 @@ use Rattle.std.specs.List.{position, position_or_len, prefix_len}
 use Rattle.std.specs.Map.{keys_of}
 use Rattle.std.specs.Str.{bytes_eq}
 use Rattle.stn_model.specs.declared.ids.Lean.{Lean}
+use Rattle.stn_model.specs.declared.ids.Act.{Act}
 use Rattle.stn_model.specs.declared.ids.AgentId.{AgentId}
 use Rattle.stn_model.specs.declared.network.Network.TheInside.{Inside}
-use Rattle.stn_model.specs.Net.{Net, Agent, Place, lean_of, no_agent, agent_names, point_names, horizon_arcs, horizon_pair, arcs_of, find_point, find_agent, owner_of}
+use Rattle.stn_model.specs.Net.{Net, Agent, Place, lean_of, no_agent, agent_names, point_names, horizon_arcs, horizon_pair, act_arcs, act_pair, fixed_arcs, fixed_count, arcs_of, find_point, find_agent, owner_of}
 use Rattle.stn_model.specs.Views.{view_of}
 
 pub length-map : {X Y : Type 0} (f : X → Y) (xs : List X) → length (map f xs) ≡ length xs
@@ -48,8 +49,16 @@ pub length-horizon_arcs : (h : ℤ) (n : ℕ) → length (horizon_arcs h n) ≡ 
 length-horizon_arcs h zero = refl
 length-horizon_arcs h (suc n) = omega (arith, length-append (horizon_arcs h n) (horizon_pair h (suc n)), length-horizon_arcs h n)
 
-pub length-arcs_of : (net : Net) → length (arcs_of net) ≡ 2 * length net.places + length net.given
-length-arcs_of net = omega (arith, length-append (horizon_arcs net.horizon (length net.places)) net.given, length-horizon_arcs net.horizon (length net.places))
+pub length-act_arcs : (acts : List Act) → length (act_arcs acts) ≡ 2 * length acts
+length-act_arcs [] = refl
+length-act_arcs (a ∷ acts) = omega (arith, length-act_arcs acts)
+
+pub length-fixed_arcs : (net : Net) → length (fixed_arcs net) ≡ fixed_count net
+length-fixed_arcs net =
+    omega (arith, length-append (horizon_arcs net.horizon (length net.places)) (act_arcs net.acts), length-horizon_arcs net.horizon (length net.places), length-act_arcs net.acts)
+
+pub length-arcs_of : (net : Net) → length (arcs_of net) ≡ 2 * length net.places + 2 * length net.acts + length net.given
+length-arcs_of net = omega (arith, length-append (fixed_arcs net) net.given, length-fixed_arcs net)
 
 -- what `find` answers for a name other than `z`
 pub find_point_from : (n : Inside) (name : List ℕ) (r : Option ℕ) → bytes_eq name (122 ∷ []) ≡ false

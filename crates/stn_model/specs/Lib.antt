@@ -1,3 +1,4 @@
+pub mod Limits
 pub mod Arcs
 pub mod Walks
 pub mod ArcWalks

@@ -11,6 +11,7 @@ view_of n = record {
   horizon = n.horizon;
   agents = map (λ e. record { name = e.0.items; lean = e.1 }) n.agents.entries;
   places = map (λ e. record { name = e.0.items; owner = e.1.0 }) n.places.entries;
+  acts = n.acts.items;
   given = n.given.items;
 }
 

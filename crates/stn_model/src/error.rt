@@ -18,11 +18,11 @@ pub enum NetError {
     /// The network has 64 agents.
     #[error("there are 64 agents")]
     TooManyAgents = 3,
-    /// The network has 4096 points.
-    #[error("there are 4096 points")]
+    /// The network has 8192 points, or 8191 where an act adds two.
+    #[error("there are 8192 points")]
     TooManyPoints = 4,
-    /// The network has 65536 given arcs.
-    #[error("there are 65536 given arcs")]
+    /// The network has 65536 given arcs and arcs of acts.
+    #[error("there are 65536 given arcs and arcs of acts")]
     TooManyArcs = 5,
     /// The arc would begin and end at one point.
     #[error("an arc joins two different points")]
@@ -39,7 +39,33 @@ pub enum NetError {
     /// Memory ran out.
     #[error("memory ran out")]
     OutOfMemory = 10,
+    /// The least duration of an act is below 0.
+    #[error("an act does not end before it starts")]
+    NegativeDuration = 11,
 }
+
+// The numbers are part of what users see.
+const _: () = prove!(NetError::NameBad as u8 == 1);
+
+const _: () = prove!(NetError::NameTaken as u8 == 2);
+
+const _: () = prove!(NetError::TooManyAgents as u8 == 3);
+
+const _: () = prove!(NetError::TooManyPoints as u8 == 4);
+
+const _: () = prove!(NetError::TooManyArcs as u8 == 5);
+
+const _: () = prove!(NetError::SamePoint as u8 == 6);
+
+const _: () = prove!(NetError::BoundRange as u8 == 7);
+
+const _: () = prove!(NetError::HorizonRange as u8 == 8);
+
+const _: () = prove!(NetError::PointsClosed as u8 == 9);
+
+const _: () = prove!(NetError::OutOfMemory as u8 == 10);
+
+const _: () = prove!(NetError::NegativeDuration as u8 == 11);
 
 impl From<AllocError> for OutOfMemory {
     fn from(_error: AllocError) -> Self {

@@ -40,3 +40,16 @@ pub struct Constraint {
     /// The greatest difference; in a network of magnitude at most 2^40.
     pub bound: i64,
 }
+
+/// A task with a start, an end and a duration, in the network's unit of time. Its end is the point after its start.
+#[derive(Clone, Copy, Debug, PartialEq, Eq)]
+pub struct Act {
+    /// The point at which it starts.
+    pub start: PointId,
+    /// The point at which it ends.
+    pub end: PointId,
+    /// The least duration, from 0 to 2^40.
+    pub low: i64,
+    /// The greatest duration, of magnitude at most 2^40; where it is below the least one, no schedule satisfies the network.
+    pub high: i64,
+}

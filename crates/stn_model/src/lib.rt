@@ -11,7 +11,7 @@ pub mod network;
 pub mod schedule;
 
 pub use error::{NetError, OutOfMemory};
-pub use ids::{AgentId, Constraint, Kind, Lean, PointId};
+pub use ids::{Act, AgentId, Constraint, Kind, Lean, PointId};
 pub use limits::{
     GREATEST_BOUND, GREATEST_TIME, LONGEST_NAME, MOST_AGENTS, MOST_ARCS, MOST_POINTS,
 };

@@ -4,9 +4,9 @@
 pub const MOST_AGENTS: u32 = 64;
 
 /// The most points of a network, the reference point among them.
-pub const MOST_POINTS: u32 = 4096;
+pub const MOST_POINTS: u32 = 8192;
 
-/// The most arcs that can be added to a network. The two arcs of each point with the reference point come on top.
+/// The most arcs of acts, two each, and given arcs together. The two arcs of each point with the reference point come on top.
 pub const MOST_ARCS: u32 = 65_536;
 
 /// The greatest horizon, and the greatest magnitude of a bound: 2^40.

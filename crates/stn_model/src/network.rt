@@ -1,20 +1,23 @@
-//! Networks: agents, their points, and arcs between points, with the refusals of the calls that add them.
-ghost use Rattle.std.specs.Prelude.{◌≡◌, ◌≢◌, ℕ, ◌+◌, ◌-◌, ◌*◌, ◌<◌, ◌≤◌, ◌++◌, ◌∷◌, [], ◌≤ℤ◌, ◌-ℤ◌, length, pos, IsTrue, IsOkUnless, IsErrOf, MatchOption, IfOk, OnErr, OnOk, IfSome, slice_get, ◌↔◌, IsErr, ◌⊎◌, neg_ℤ, int_le, true};
-ghost use Rattle.stn_model.specs.Refusals.{agent_refusal, point_refusal, arc_refusal};
-ghost use Rattle.stn_model.specs.Net.{find_agent, find_point, point_count, arcs_of, owner_of, lean_of, agent_name_of, point_name_of};
+//! Networks: agents, their points, acts and arcs between points, with the refusals of the calls that add them.
+ghost use Rattle.std.specs.Prelude.{◌≡◌, ◌≢◌, ℕ, ◌+◌, ◌-◌, ◌*◌, ◌<◌, ◌≤◌, ◌++◌, ◌∷◌, [], ◌≤ℤ◌, ◌-ℤ◌, length, pos, IsTrue, IsOkUnless, IsErrOf, MatchOption, IfOk, OnErr, OnOk, IfSome, slice_get, slice_index_or, ◌↔◌, IsErr, ◌⊎◌, neg_ℤ, int_le, true, false, None, if◌then◌else◌};
+ghost use Rattle.std.specs.Str.{bytes_eq};
+ghost use Rattle.indexmap.specs.IndexMap.{spare, get};
+ghost use Rattle.stn_model.specs.Limits.{greatest_bound};
+ghost use Rattle.stn_model.specs.Refusals.{agent_refusal, point_refusal, named_act_refusal, act_refusal, arc_refusal, is_beyond};
+ghost use Rattle.stn_model.specs.Net.{find_agent, find_point, point_count, arcs_of, fixed_count, is_given, with_act, with_bound, act_pair, no_act, owner_of, lean_of, agent_name_of, point_name_of};
 ghost use Rattle.stn_model.specs.Kinds.{kind_of, is_external};
 ghost use Rattle.stn_model.specs.Flags.{AreEnds, marked};
-ghost use Rattle.stn_model.specs.Valid.{IsNetwork, IsArcWithin};
-ghost use Rattle.stn_model.specs.Arcs.{arc_at};
+ghost use Rattle.stn_model.specs.Valid.{IsNetwork, IsArcWithin, IsActWithin};
+ghost use Rattle.stn_model.specs.Arcs.{arc_at, no_arc};
 ghost use Rattle.stn_model.specs.Schedules.{Satisfies, time_at};
 ghost use Rattle.stn_model.specs.Times.{IsTime};
 ghost use Rattle.std.specs.List.{All};
 ghost use Rattle.std.specs.Option.{option_map};
 
 use crate::error::{NetError, OutOfMemory};
-use crate::ids::{AgentId, Constraint, Kind, Lean, PointId};
+use crate::ids::{Act, AgentId, Constraint, Kind, Lean, PointId};
 use crate::limits::{GREATEST_BOUND, MOST_AGENTS, MOST_ARCS, MOST_POINTS};
-use crate::names::is_name;
+use crate::names::{end_name, is_name, start_name};
 use crate::schedule::Schedule;
 use indexmap::IndexMap;
 use std::alloc::Global;
@@ -29,6 +32,7 @@ pub struct Network {
     horizon: i64,
     agents: IndexMap<Vec<u8>, Lean>,
     places: IndexMap<Vec<u8>, AgentId>,
+    acts: Vec<Act>,
     given: Vec<Constraint>,
     /// For each point from 1 on, whether an external arc names it.
     shared: Vec<bool>,
@@ -51,8 +55,8 @@ impl Network {
     ///
     /// HorizonRange exactly where the horizon is below 0 or above 2^40; there is no other error.
     pub fn new(alloc: Global, horizon: i64) -> Result<Self, NetError>
-        ensures ok { IfOk result (λ net. net ≡ record { horizon = horizon; agents = []; places = []; given = [] }) }
-        ensures refused { IsErr result ↔ ((pos 0 ≤ℤ horizon × horizon ≤ℤ pos 1099511627776) → ⊥) }
+        ensures ok { IfOk result (λ net. net ≡ record { horizon = horizon; agents = []; places = []; acts = []; given = [] }) }
+        ensures refused { IsErr result ↔ ((pos 0 ≤ℤ horizon × horizon ≤ℤ pos greatest_bound) → ⊥) }
         ensures error { IsOkUnless result NetError.HorizonRange }
     {
         if horizon < 0 || horizon > GREATEST_BOUND {
@@ -62,6 +66,7 @@ impl Network {
             horizon,
             agents: IndexMap::new(alloc),
             places: IndexMap::new(alloc),
+            acts: Vec::new(alloc),
             given: Vec::new(alloc),
             shared: Vec::new(alloc),
         })
@@ -139,12 +144,36 @@ impl Network {
         self.places.len() as u32 + 1
     }
 
-    /// How many arcs there are: two for each point but `z`, and the given ones.
+    /// How many acts there are.
+    pub fn acts(&self) -> u32
+        ensures count { result ≡ length self.now.acts }
+        ensures valid { IsNetwork self.now }
+    {
+        self.acts.len() as u32
+    }
+
+    /// The act of that number.
+    pub fn act(&self, k: u32) -> Act
+        requires { k < length self.now.acts }
+        ensures act { result ≡ slice_index_or self.now.acts k no_act }
+        ensures within { IsActWithin self.now.places result }
+    {
+        self.acts[k as usize]
+    }
+
+    /// How many arcs there are: two for each point but `z`, two for each act, and the given ones.
     pub fn arcs(&self) -> u32
         ensures count { result ≡ length (arcs_of self.now) }
         ensures valid { IsNetwork self.now }
     {
-        2 * self.places.len() as u32 + self.given.len() as u32
+        self.fixed_arcs() + self.given.len() as u32
+    }
+
+    /// How many arcs were not given.
+    fn fixed_arcs(&self) -> u32
+        ensures count { result ≡ fixed_count self.now }
+    {
+        2 * self.places.len() as u32 + 2 * self.acts.len() as u32
     }
 
     /// The greatest time of a point, from 0 to 2^40.
@@ -188,7 +217,7 @@ impl Network {
     /// numbers `2p - 2` and `2p - 1`.
     ///
     /// The first of these that holds is the error: NameBad where the bytes are no name; NameTaken where a point has it, or it is `z`;
-    /// PointsClosed where an arc was given; TooManyPoints where there are 4096; OutOfMemory. After an error nothing is changed.
+    /// PointsClosed where an arc was given; TooManyPoints where there are 8192; OutOfMemory. After an error nothing is changed.
     pub fn add_point(
         &mut self,
         alloc: Global,
@@ -227,11 +256,68 @@ impl Network {
         Ok(PointId(number))
     }
 
+    /// Adds an act of an agent, and gives its number, which is how many there were: the points `NAME.s` and `NAME.e`, in this order, where
+    /// the act starts and ends. With m points then, act k has the arcs `(start, end, high)` and `(end, start, -low)`, with the numbers
+    /// `2m - 2 + 2k` and the next. `low` and `high` are its least and greatest duration; `low` may be above `high`.
+    ///
+    /// The first of these that holds is the error: NameBad where `NAME.s` is no name; NameTaken where a point has one of the two names;
+    /// PointsClosed where an arc was given; TooManyPoints where there is no room for two; NegativeDuration where `low` is below 0;
+    /// BoundRange where `high` or `low` has magnitude above 2^40; OutOfMemory. After an error nothing is changed.
+    pub fn add_act(
+        &mut self,
+        alloc: Global,
+        agent: AgentId,
+        name: &[u8],
+        low: i64,
+        high: i64,
+    ) -> Result<u32, NetError>
+        requires { agent.0 < length self.old.agents }
+        ensures refusals { MatchOption (act_refusal self.old name.now low high) (IsOkUnless result NetError.OutOfMemory) (IsErrOf result) }
+        ensures ok { IfOk result (λ k. (k ≡ length self.old.acts) × (self.new ≡ with_act self.old agent.0 name.now low high)) }
+        ensures err { OnErr result (self.new ≡ self.old) }
+    {
+        let (Some(start), Some(end)) = (start_name(name), end_name(name)) else {
+            return Err(NetError::NameBad);
+        };
+        match self.act_refusal(start.as_slice(), end.as_slice(), low, high) {
+            Some(error) => return Err(error),
+            None => {}
+        }
+        let number = self.acts();
+        let Ok(start) = Vec::from_slice(alloc, start.as_slice()) else {
+            return Err(NetError::OutOfMemory);
+        };
+        let Ok(end) = Vec::from_slice(alloc, end.as_slice()) else {
+            return Err(NetError::OutOfMemory);
+        };
+        let point = self.points();
+        let act = Act {
+            start: PointId(point),
+            end: PointId(point + 1),
+            low,
+            high,
+        };
+        let Ok(()) = self.places.reserve(2) else {
+            return Err(NetError::OutOfMemory);
+        };
+        let Ok(()) = self.shared.reserve(2) else {
+            return Err(NetError::OutOfMemory);
+        };
+        let Ok(()) = self.acts.reserve(1) else {
+            return Err(NetError::OutOfMemory);
+        };
+        self.acts.push_reserved(act);
+        insert_two(&mut self.places, start, end, agent);
+        self.shared.push_reserved(false);
+        self.shared.push_reserved(false);
+        Ok(number)
+    }
+
     /// Adds an arc, and gives its number, which is how many there were. An arc is kept as it is given, also beside an equal one, or with a
     /// bound above the horizon.
     ///
     /// The first of these that holds is the error: SamePoint where the ends are one point; BoundRange where the bound has magnitude above
-    /// 2^40; TooManyArcs where 65536 were given; OutOfMemory. After an error nothing is changed.
+    /// 2^40; TooManyArcs where there are 65536 given arcs and arcs of acts; OutOfMemory. After an error nothing is changed.
     pub fn add_arc(&mut self, from: PointId, to: PointId, bound: i64) -> Result<u32, NetError>
         requires from_in { from.0 < point_count self.old }
         requires to_in { to.0 < point_count self.old }
@@ -243,10 +329,10 @@ impl Network {
         if from.0 == to.0 {
             return Err(NetError::SamePoint);
         }
-        if bound < -GREATEST_BOUND || bound > GREATEST_BOUND {
+        if is_beyond(bound) {
             return Err(NetError::BoundRange);
         }
-        if self.given.len() >= MOST_ARCS as usize {
+        if 2 * self.acts.len() + self.given.len() >= MOST_ARCS as usize {
             return Err(NetError::TooManyArcs);
         }
         let number = self.arcs();
@@ -259,16 +345,55 @@ impl Network {
         Ok(number)
     }
 
-    /// The arc of that number: `2p - 2` is `(z, p, horizon)` and `2p - 1` is `(p, z, 0)` for each point p from 1 on, and the given arcs
-    /// follow in the order in which they were added.
+    /// Whether `add_arc` added the arc of that number, withdrawn since or not: false for arcs with `z` that each point has, for arcs of acts,
+    /// and for numbers that no arc has.
+    pub fn is_given(&self, n: u32) -> bool
+        ensures { result ≡ is_given self.now n }
+    {
+        self.fixed_arcs() <= n && n < self.arcs()
+    }
+
+    /// Gives a given arc another bound. It keeps its number and its ends, and all else stays.
+    pub fn set_bound(&mut self, n: u32, bound: i64)
+        requires given { IsTrue (is_given self.old n) }
+        requires low { neg_ℤ (pos greatest_bound) ≤ℤ bound }
+        requires high { bound ≤ℤ pos greatest_bound }
+        ensures { self.new ≡ with_bound self.old n bound }
+    {
+        let place = (n - self.fixed_arcs()) as usize;
+        let arc = self.given[place];
+        self.given[place] = Constraint {
+            from: arc.from,
+            to: arc.to,
+            bound,
+        };
+    }
+
+    /// Withdraws a given arc: its bound becomes the horizon, which the arcs of its ends with `z` imply, so it forbids nothing more. It keeps
+    /// its number and its ends, and all else stays; a point that it made shared stays shared.
+    pub fn withdraw(&mut self, n: u32)
+        requires { IsTrue (is_given self.old n) }
+        ensures { self.new ≡ with_bound self.old n self.old.horizon }
+    {
+        let horizon = self.horizon();
+        self.set_bound(n, horizon);
+    }
+
+    /// The arc of that number: `2p - 2` is `(z, p, horizon)` and `2p - 1` is `(p, z, 0)` for each point p from 1 on, the two arcs of each act
+    /// follow, and then the given arcs in the order in which they were added.
     pub fn arc(&self, n: u32) -> Constraint
         requires { n < length (arcs_of self.now) }
         ensures arc { result ≡ arc_at (arcs_of self.now) n }
         ensures within { IsArcWithin (point_count self.now) result }
     {
+        let fixed = self.fixed_arcs();
+        if n >= fixed {
+            return self.given[(n - fixed) as usize];
+        }
         let pairs = 2 * self.places.len() as u32;
         if n >= pairs {
-            return self.given[(n - pairs) as usize];
+            let act = self.act((n - pairs) / 2);
+            return side_of(act, n % 2 == 0);
         }
         let point = PointId(n / 2 + 1);
         if n % 2 == 0 {
@@ -310,6 +435,9 @@ impl Network {
         let Ok(places) = self.places.clone() else {
             return Err(OutOfMemory);
         };
+        let Ok(acts) = Vec::from_slice(alloc, self.acts.as_slice()) else {
+            return Err(OutOfMemory);
+        };
         let Ok(given) = Vec::from_slice(alloc, self.given.as_slice()) else {
             return Err(OutOfMemory);
         };
@@ -320,6 +448,7 @@ impl Network {
             horizon: self.horizon,
             agents,
             places,
+            acts,
             given,
             shared,
         })
@@ -337,6 +466,31 @@ impl Network {
             return Kind::Shared;
         }
         Kind::Private
+    }
+
+    /// Why an act is refused whose points would have these names, if it is.
+    fn act_refusal(&self, start: &[u8], end: &[u8], low: i64, high: i64) -> Option<NetError>
+        ensures { result ≡ named_act_refusal self.now start.now end.now low high }
+    {
+        if !is_name(start) {
+            return Some(NetError::NameBad);
+        }
+        if self.find(start).is_some() || self.find(end).is_some() {
+            return Some(NetError::NameTaken);
+        }
+        if !self.given.is_empty() {
+            return Some(NetError::PointsClosed);
+        }
+        if self.points() + 1 >= MOST_POINTS {
+            return Some(NetError::TooManyPoints);
+        }
+        if low < 0 {
+            return Some(NetError::NegativeDuration);
+        }
+        if is_beyond(high) || is_beyond(low) {
+            return Some(NetError::BoundRange);
+        }
+        None
     }
 
     /// Whether the ends of the arc have different owners, and neither is the reference point.
@@ -363,6 +517,54 @@ impl Network {
         }
         true
     }
+}
+
+/// Whether the number has magnitude above 2^40.
+fn is_beyond(bound: i64) -> bool
+    ensures { result ≡ is_beyond bound }
+{
+    bound < -GREATEST_BOUND || bound > GREATEST_BOUND
+}
+
+/// The arc of an act from its start to its end, or the one back.
+fn side_of(act: Act, forward: bool) -> Constraint
+    requires low { pos 0 ≤ℤ act.low }
+    ensures { result ≡ slice_index_or (act_pair act) (if forward then 0 else 1) no_arc }
+{
+    if forward {
+        Constraint {
+            from: act.start,
+            to: act.end,
+            bound: act.high,
+        }
+    } else {
+        Constraint {
+            from: act.end,
+            to: act.start,
+            bound: -act.low,
+        }
+    }
+}
+
+/// Adds two new places of an agent, for which there is room.
+fn insert_two(
+    places: &mut IndexMap<Vec<u8>, AgentId>,
+    first: Vec<u8>,
+    second: Vec<u8>,
+    agent: AgentId,
+)
+    requires room { 2 ≤ spare places.old }
+    requires first_new { get (λ x y. bytes_eq x.items y.items) places.old first ≡ None }
+    requires second_new { get (λ x y. bytes_eq x.items y.items) places.old second ≡ None }
+    requires apart { bytes_eq first.items second.items ≡ false }
+    ensures { places.new.entries ≡ places.old.entries ++ (first, agent) ∷ (second, agent) ∷ [] }
+{
+    let Ok(_) = places.insert(first, agent) else {
+        unreachable!()
+    };
+    let Ok(_) = places.insert(second, agent) else {
+        unreachable!()
+    };
 }
 
 /// Marks both ends of an external arc as shared.

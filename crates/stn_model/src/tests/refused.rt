@@ -83,7 +83,7 @@ fn refuses_points(rt: HostRuntime) -> Result<(), Fail> {
     for (name, want) in [
         (b"9".as_slice(), NetError::NameBad),
         (b"z".as_slice(), NetError::NameTaken),
-        (b"n4095".as_slice(), NetError::NameTaken),
+        (b"n8191".as_slice(), NetError::NameTaken),
         (b"n0000".as_slice(), NetError::TooManyPoints),
     ] {
         assert_eq!(rt; place(&rt, &mut net, rt.alloc(), 0, name), Err(want));
@@ -94,7 +94,7 @@ fn refuses_points(rt: HostRuntime) -> Result<(), Fail> {
 #[test]
 fn refuses_points_after_arcs(rt: HostRuntime) -> Result<(), Fail> {
     let mut net = full_of_points(&rt, rt.alloc())?;
-    join(&rt, &mut net, 4095, 0, 11)?;
+    join(&rt, &mut net, 8191, 0, 11)?;
     for (name, want) in [
         (b"9".as_slice(), NetError::NameBad),
         (b"z".as_slice(), NetError::NameTaken),
