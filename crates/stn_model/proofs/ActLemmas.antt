@@ -1,13 +1,15 @@
--- What an act does to a network: the tests that it passed, and how the fields are seen after it.
-use Rattle.std.proofs.Common.{◌≡◌, ℕ, ◌+◌, ◌<◌, ◌≤◌, ℤ, pos, ◌≤ℤ◌, Bool, true, false, ◌||◌, not, IsTrue, nat_eq, nat_le, int_lt, List, [], ◌∷◌, ◌++◌, map, length, Option, Some, None, is_some, Vec, Global, refl, sym, ap, subst, ◌∙◌, arith, if◌then◌else◌}
+-- What an act does to a network: the tests that it passed, how the fields are seen after it, and what its points are named for.
+use Rattle.std.proofs.Common.{◌≡◌, ℕ, ◌+◌, ◌-◌, ◌<◌, ◌≤◌, ℤ, pos, ◌≤ℤ◌, Bool, true, false, ◌||◌, not, IsTrue, nat_eq, nat_le, int_lt, List, [], ◌∷◌, ◌++◌, map, length, take, get_or, Option, Some, None, is_some, Vec, Global, refl, sym, ap, subst, ◌∙◌, arith, length-append, if◌then◌else◌}
 use Rattle.std.proofs.lemmas.List.{map-append}
+use Rattle.std.proofs.Math.Seq.{take-append_seam}
 use Rattle.std.proofs.lemmas.Int.{ints}
+use Rattle.stn_model.specs.Valid.{IsActWithin}
 use Rattle.std.proofs.lemmas.Bool.Decides.{nat_tests}
 use Rattle.stn_model.specs.declared.ids.Act.{Act}
 use Rattle.stn_model.specs.declared.ids.AgentId.{AgentId}
 use Rattle.stn_model.specs.declared.network.Network.TheInside.{Inside}
 use Rattle.stn_model.specs.Limits.{most_points}
-use Rattle.stn_model.specs.Net.{Net, Place, find_point, point_count, act_start_name, act_end_name, with_act}
+use Rattle.stn_model.specs.Net.{Net, Place, no_place, point_name_of, find_point, point_count, act_start_name, act_end_name, with_act}
 use Rattle.stn_model.specs.Refusals.{is_name, is_beyond, named_act_refusal}
 use Rattle.stn_model.specs.Views.{view_of}
 
@@ -84,3 +86,21 @@ act_view n net es start end agent name acts p q l h low high view put start_is e
     ap (λ ps. record (view_of n) { places = ps; acts = acts }) places
     ∙ ap (λ ks. record (view_of n) { places = old ++ place (act_start_name name) ∷ place (act_end_name name) ∷ []; acts = ks }) acts_are
     ∙ ap (λ (w : Net). record w { places = w.places ++ place (act_start_name name) ∷ place (act_end_name name) ∷ []; acts = w.acts ++ act (point_count net) (point_count net + 1) low high ∷ [] }) view
+
+-- what an act's points are named for
+pub act_named : (net : Net) (a : Act) → IsActWithin net.places a
+    → (2 ≤ length (point_name_of net a.start.0))
+    × (point_name_of net a.start.0 ≡ act_start_name (take (length (point_name_of net a.start.0) - 2) (point_name_of net a.start.0)))
+    × (point_name_of net a.end.0 ≡ act_end_name (take (length (point_name_of net a.start.0) - 2) (point_name_of net a.start.0)))
+act_named net a h =
+    let start = point_name_of net a.start.0 in
+    let start_is : point_name_of net a.start.0 ≡ act_start_name h.name = placed a.start.0 h.after_z ∙ h.start_name in
+    let end_is : point_name_of net a.end.0 ≡ act_end_name h.name = placed a.end.0 (omega (arith, h.next)) ∙ h.end_name in
+    let len : length (point_name_of net a.start.0) ≡ length h.name + 2 = ap length start_is ∙ length-append h.name (46 ∷ 115 ∷ []) in
+    let short : length (point_name_of net a.start.0) - 2 ≡ length h.name = omega (arith, len) in
+    let name : take (length (point_name_of net a.start.0) - 2) (point_name_of net a.start.0) ≡ h.name =
+    ap (λ k. take k (point_name_of net a.start.0)) short ∙ ap (take (length h.name)) start_is ∙ take-append_seam h.name (46 ∷ 115 ∷ []) in
+    (omega (arith, len), start_is ∙ ap act_start_name (sym name), end_is ∙ ap act_end_name (sym name))
+  where
+    placed : (p : ℕ) → 0 < p → point_name_of net p ≡ (get_or net.places (p - 1) no_place).name
+    placed p low = let off : nat_eq p 0 ≡ false = grind (arith, nat_tests) in ap (λ b. if b then 122 ∷ [] else (get_or net.places (p - 1) no_place).name) off

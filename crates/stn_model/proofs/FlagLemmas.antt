@@ -191,7 +191,7 @@ AreFlags-act net first second acts flags none h =
     record { one_each = whole.one_each; each = whole.each }
 
 -- another bound leaves the ends of an arc, so its marks
-set_bound_any : (test : Constraint → Bool) → ((a : Constraint) (b : ℤ) → test (record a { bound = b }) ≡ test a) → (arcs : List Constraint) (i : ℕ) (b : ℤ)
+pub set_bound_any : (test : Constraint → Bool) → ((a : Constraint) (b : ℤ) → test (record a { bound = b }) ≡ test a) → (arcs : List Constraint) (i : ℕ) (b : ℤ)
     → list_any test (set arcs i (record (arc_at arcs i) { bound = b })) ≡ list_any test arcs
 set_bound_any test same [] i b = refl
 set_bound_any test same (a ∷ arcs) zero b = ap (λ x. x || list_any test arcs) (same a b)

@@ -8,3 +8,5 @@ pub mod NameLemmas
 pub mod ValidLemmas
 pub mod FindLemmas
 pub mod ActLemmas
+pub mod ArcKinds
+pub mod BoundLemmas

@@ -1,12 +1,14 @@
--- Laws about walks, schedules, least bounds and names: NegativeCyclesExclude, NegativeCyclesGoOn, LeastBoundsAreUnique, LeastBoundToItself,
--- WalksHaveArcs, ArcWalksHaveNumbers, PointsHaveNames, AgentsHaveNames.
-use Rattle.std.specs.Prelude.{◌≡◌, ℕ, ◌<◌, ℤ, pos, List, [], map, length, Some}
+-- Laws about walks, schedules, least bounds, names and kinds of arcs: NegativeCyclesExclude, NegativeCyclesGoOn, LeastBoundsAreUnique, LeastBoundToItself,
+-- WalksHaveArcs, ArcWalksHaveNumbers, PointsHaveNames, AgentsHaveNames, HasOneOwner, ArcsHaveKinds, BoundsAreSet.
+use Rattle.std.specs.Prelude.{◌≡◌, ℕ, ◌<◌, ℤ, pos, List, [], map, length, set, Some, Contains, IsTrue, ◌⊎◌}
 use Rattle.stn_model.specs.declared.ids.Constraint.{Constraint}
 use Rattle.stn_model.specs.Arcs.{arc_at}
 use Rattle.stn_model.specs.Walks.{IsWalk, weight, IsNegativeCycle}
 use Rattle.stn_model.specs.ArcWalks.{IsArcWalk, arcs_weight}
 use Rattle.stn_model.specs.Schedules.{IsConsistent, IsLeastBound}
-use Rattle.stn_model.specs.Net.{Net, point_count, point_name_of, agent_name_of, find_point, find_agent}
+use Rattle.stn_model.specs.Conflicts.{own_arcs, external_arcs}
+use Rattle.stn_model.specs.Kinds.{kind_of}
+use Rattle.stn_model.specs.Net.{Net, arcs_of, is_given, with_bound, point_count, point_name_of, agent_name_of, find_point, find_agent}
 use Rattle.stn_model.specs.Valid.{IsNetwork}
 
 -- a negative cycle and a schedule exclude each other
@@ -52,3 +54,24 @@ AgentsHaveNames =
     (net : Net) → IsNetwork net
     → ((a : ℕ) → a < length net.agents → find_agent net (agent_name_of net a) ≡ Some a)
     × ((name : List ℕ) (a : ℕ) → find_agent net name ≡ Some a → (a < length net.agents) × (agent_name_of net a ≡ name))
+
+-- the arc is own to one agent, to no other, and not external
+pub record HasOneOwner (net : Net) (a : Constraint) : Type 0 where
+  pub agent : ℕ
+  pub known : agent < length net.agents
+  pub own : Contains (own_arcs net agent) a
+  pub only : (other : ℕ) → Contains (own_arcs net other) a → other ≡ agent
+  pub inner : Contains (external_arcs net) a → ⊥
+
+-- each arc of a network is external and own to nobody, or own to exactly one agent
+abbrev pub ArcsHaveKinds : Type 0
+ArcsHaveKinds =
+    (net : Net) → IsNetwork net → (a : Constraint) → Contains (arcs_of net) a
+    → (Contains (external_arcs net) a × ((agent : ℕ) → Contains (own_arcs net agent) a → ⊥)) ⊎ HasOneOwner net a
+
+-- another bound at a given arc changes the bound of that arc, no other arc, and no point's kind
+abbrev pub BoundsAreSet : Type 0
+BoundsAreSet =
+    (net : Net) (n : ℕ) (b : ℤ) → IsNetwork net → IsTrue (is_given net n)
+    → (arcs_of (with_bound net n b) ≡ set (arcs_of net) n (record (arc_at (arcs_of net) n) { bound = b }))
+    × ((p : ℕ) → kind_of (with_bound net n b) p ≡ kind_of net p)

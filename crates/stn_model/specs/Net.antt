@@ -1,8 +1,8 @@
 -- What contracts see of a network (Dechter, Meiri and Pearl 1991; owners from Boerkoel and Durfee 2013; the horizon is this project's):
 -- Agent, Place, Net, point_count, horizon_pair, horizon_arcs, act_pair, act_arcs, fixed_arcs, arcs_of, fixed_count, is_given, with_bound,
 -- owner_of, point_names, agent_names, no_agent, no_place, no_act, agent_name_of, lean_of, point_name_of, find_point, find_agent,
--- act_start_name, act_end_name, with_act.
-use Rattle.std.specs.Prelude.{ℕ, zero, suc, ◌+◌, ◌-◌, ◌*◌, ◌&&◌, nat_eq, nat_le, nat_lt, set, slice_index_or, ℤ, pos, neg_ℤ, Bool, List, [], ◌∷◌, ◌++◌, map, length, slice_get, if◌then◌else◌}
+-- act_start_name, act_end_name, act_name_of, with_act.
+use Rattle.std.specs.Prelude.{ℕ, zero, suc, ◌+◌, ◌-◌, ◌*◌, ◌&&◌, nat_eq, nat_le, nat_lt, set, slice_index_or, ℤ, pos, neg_ℤ, Bool, List, [], ◌∷◌, ◌++◌, map, length, take, slice_get, if◌then◌else◌}
 use Rattle.std.specs.Prelude.{Option, Some, None}
 use Rattle.std.specs.List.{position}
 use Rattle.std.specs.Str.{bytes_eq}
@@ -124,6 +124,10 @@ act_start_name name = name ++ 46 ∷ 115 ∷ []
 
 abbrev pub act_end_name : List ℕ → List ℕ
 act_end_name name = name ++ 46 ∷ 101 ∷ []
+
+-- the name of an act: its start's without the last two bytes
+abbrev pub act_name_of : Net → ℕ → List ℕ
+act_name_of net k = let start = point_name_of net (slice_index_or net.acts k no_act).start.0 in take (length start - 2) start
 
 -- the network with one more act, of an agent, and its two points
 abbrev pub with_act : Net → ℕ → List ℕ → ℤ → ℤ → Net

@@ -1,5 +1,5 @@
-//! Laws about walks, schedules, least bounds and names, which no code keeps: functions with an empty body, whose contract is the law.
-ghost use Rattle.stn_model.specs.Laws.{NegativeCyclesExclude, NegativeCyclesGoOn, LeastBoundsAreUnique, LeastBoundToItself, WalksHaveArcs, ArcWalksHaveNumbers, PointsHaveNames, AgentsHaveNames};
+//! Laws about walks, schedules, least bounds, names and kinds of arcs, which no code keeps: functions with an empty body, whose contract is the law.
+ghost use Rattle.stn_model.specs.Laws.{NegativeCyclesExclude, NegativeCyclesGoOn, LeastBoundsAreUnique, LeastBoundToItself, WalksHaveArcs, ArcWalksHaveNumbers, PointsHaveNames, AgentsHaveNames, ArcsHaveKinds, BoundsAreSet};
 
 /// A negative cycle and a schedule exclude each other (Dechter, Meiri and Pearl 1991).
 pub fn negative_cycles_exclude()
@@ -39,4 +39,14 @@ pub fn points_have_names()
 /// Each agent is found by its name, and what is found has the name.
 pub fn agents_have_names()
     ensures { AgentsHaveNames }
+{}
+
+/// Each arc of a network is external and own to nobody, or own to exactly one agent (Boerkoel and Durfee 2013).
+pub fn arcs_have_kinds()
+    ensures { ArcsHaveKinds }
+{}
+
+/// Another bound at a given arc, as a withdrawal sets, changes the bound of that arc, no other arc, and no point's kind.
+pub fn bounds_are_set()
+    ensures { BoundsAreSet }
 {}

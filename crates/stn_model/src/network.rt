@@ -4,7 +4,7 @@ ghost use Rattle.std.specs.Str.{bytes_eq};
 ghost use Rattle.indexmap.specs.IndexMap.{spare, get};
 ghost use Rattle.stn_model.specs.Limits.{greatest_bound};
 ghost use Rattle.stn_model.specs.Refusals.{agent_refusal, point_refusal, named_act_refusal, act_refusal, arc_refusal, is_beyond};
-ghost use Rattle.stn_model.specs.Net.{find_agent, find_point, point_count, arcs_of, fixed_count, is_given, with_act, with_bound, act_pair, no_act, owner_of, lean_of, agent_name_of, point_name_of};
+ghost use Rattle.stn_model.specs.Net.{find_agent, find_point, point_count, arcs_of, fixed_count, is_given, with_act, with_bound, act_pair, no_act, owner_of, lean_of, agent_name_of, point_name_of, act_name_of, act_start_name, act_end_name};
 ghost use Rattle.stn_model.specs.Kinds.{kind_of, is_external};
 ghost use Rattle.stn_model.specs.Flags.{AreEnds, marked};
 ghost use Rattle.stn_model.specs.Valid.{IsNetwork, IsArcWithin, IsActWithin};
@@ -159,6 +159,17 @@ impl Network {
         ensures within { IsActWithin self.now.places result }
     {
         self.acts[k as usize]
+    }
+
+    /// The name of an act: its points are `NAME.s` and `NAME.e`.
+    pub fn act_name(&self, k: u32) -> &[u8]
+        requires { k < length self.now.acts }
+        ensures name { result.now ≡ act_name_of self.now k }
+        ensures start { point_name_of self.now (slice_index_or self.now.acts k no_act).start.0 ≡ act_start_name result.now }
+        ensures end { point_name_of self.now (slice_index_or self.now.acts k no_act).end.0 ≡ act_end_name result.now }
+    {
+        let start = self.point_name(self.act(k).start);
+        &start[..start.len() - 2]
     }
 
     /// How many arcs there are: two for each point but `z`, two for each act, and the given ones.
