@@ -6,6 +6,19 @@ use super::*;
 use std::alloc::Global;
 use std::process::Abort;
 
+/// Adds points of agents that are there.
+fn place_all(
+    rt: &impl Abort,
+    net: &mut Network,
+    alloc: Global,
+    points: &[(u32, &[u8])],
+) -> Result<(), NetError> {
+    for (agent, name) in points.iter() {
+        place(rt, net, alloc, *agent, name)?;
+    }
+    Ok(())
+}
+
 /// Adds a point of an agent that is there.
 fn place(
     rt: &impl Abort,
@@ -18,15 +31,33 @@ fn place(
     net.add_point(alloc, AgentId(agent), name)
 }
 
+/// Adds an act of the first agent.
+fn act(
+    rt: &impl Abort,
+    net: &mut Network,
+    alloc: Global,
+    name: &[u8],
+    (low, high): (i64, i64),
+) -> Result<u32, NetError> {
+    assert!(rt; 0 < net.agents());
+    net.add_act(alloc, AgentId(0), name, low, high)
+}
+
 /// Adds an arc between points that are there.
 fn join(
     rt: &impl Abort,
     net: &mut Network,
-    from: u32,
-    to: u32,
-    bound: i64,
+    (from, to, bound): (u32, u32, i64),
 ) -> Result<u32, NetError> {
     assert!(rt; from < net.points());
     assert!(rt; to < net.points());
     net.add_arc(PointId(from), PointId(to), bound)
+}
+
+/// Adds arcs between points that are there.
+fn join_all(rt: &impl Abort, net: &mut Network, arcs: &[(u32, u32, i64)]) -> Result<(), NetError> {
+    for arc in arcs.iter() {
+        join(rt, net, *arc)?;
+    }
+    Ok(())
 }

@@ -30,13 +30,6 @@ fn knows_horizons(rt: HostRuntime) {
     }
 }
 
-#[test]
-fn numbers_errors(rt: HostRuntime) {
-    assert_eq!(rt; NetError::NameBad as u8, 1);
-    assert_eq!(rt; NetError::PointsClosed as u8, 9);
-    assert_eq!(rt; NetError::OutOfMemory as u8, 10);
-}
-
 /// A name of five bytes.
 fn number_name(k: u32) -> [u8; 5] {
     [
@@ -56,10 +49,11 @@ fn full_of_agents(alloc: Global) -> Result<Network, NetError> {
     Ok(net)
 }
 
-fn full_of_points(rt: &impl Abort, alloc: Global) -> Result<Network, NetError> {
+/// A network of so many points with `z`, all of the first agent.
+fn with_points(rt: &impl Abort, alloc: Global, points: u32) -> Result<Network, NetError> {
     let mut net = full_of_agents(alloc)?;
-    for k in 1..MOST_POINTS {
-        place(rt, &mut net, alloc, 63, number_name(k).as_slice())?;
+    for k in 1..points {
+        place(rt, &mut net, alloc, 0, number_name(k).as_slice())?;
     }
     Ok(net)
 }
@@ -77,40 +71,68 @@ fn refuses_agents(rt: HostRuntime) -> Result<(), Fail> {
     Ok(())
 }
 
-#[test]
-fn refuses_points(rt: HostRuntime) -> Result<(), Fail> {
-    let mut net = full_of_points(&rt, rt.alloc())?;
+fn assert_points_refused(rt: &impl Abort, net: &mut Network, alloc: Global, want: NetError) {
     for (name, want) in [
         (b"9".as_slice(), NetError::NameBad),
         (b"z".as_slice(), NetError::NameTaken),
         (b"n8191".as_slice(), NetError::NameTaken),
-        (b"n0000".as_slice(), NetError::TooManyPoints),
+        (b"n0000".as_slice(), want),
     ] {
-        assert_eq!(rt; place(&rt, &mut net, rt.alloc(), 0, name), Err(want));
+        assert_eq!(rt; place(rt, net, alloc, 0, name), Err(want));
     }
-    Ok(())
 }
 
 #[test]
-fn refuses_points_after_arcs(rt: HostRuntime) -> Result<(), Fail> {
-    let mut net = full_of_points(&rt, rt.alloc())?;
-    join(&rt, &mut net, 8191, 0, 11)?;
+fn refuses_points(rt: HostRuntime) -> Result<(), Fail> {
+    let mut net = with_points(&rt, rt.alloc(), MOST_POINTS)?;
+    assert_points_refused(&rt, &mut net, rt.alloc(), NetError::TooManyPoints);
+    join(&rt, &mut net, (8191, 0, 11))?;
+    assert_points_refused(&rt, &mut net, rt.alloc(), NetError::PointsClosed);
+    Ok(())
+}
+
+fn assert_act_refused(
+    rt: &impl Abort,
+    net: &mut Network,
+    alloc: Global,
+    bounds: (i64, i64),
+    want: NetError,
+) {
+    assert_eq!(rt; act(rt, net, alloc, b"dig".as_slice(), bounds), Err(want));
+}
+
+#[test]
+fn refuses_acts(rt: HostRuntime) -> Result<(), Fail> {
+    let mut net = with_points(&rt, rt.alloc(), MOST_POINTS - 1)?;
     for (name, want) in [
-        (b"9".as_slice(), NetError::NameBad),
-        (b"z".as_slice(), NetError::NameTaken),
-        (b"n0000".as_slice(), NetError::PointsClosed),
+        ([b'n'; 63].as_slice(), NetError::NameBad),
+        (b"".as_slice(), NetError::NameBad),
+        (b"dig".as_slice(), NetError::TooManyPoints),
     ] {
-        assert_eq!(rt; place(&rt, &mut net, rt.alloc(), 0, name), Err(want));
+        assert_eq!(rt; act(&rt, &mut net, rt.alloc(), name, (-1, 0)), Err(want));
     }
+    let mut net = full_of_agents(rt.alloc())?;
+    for (bounds, want) in [
+        ((-1, GREATEST_BOUND + 1), NetError::NegativeDuration),
+        ((0, GREATEST_BOUND + 1), NetError::BoundRange),
+        ((GREATEST_BOUND + 1, 0), NetError::BoundRange),
+    ] {
+        assert_act_refused(&rt, &mut net, rt.alloc(), bounds, want);
+    }
+    assert_eq!(rt;
+        act(&rt, &mut net, rt.alloc(), b"dig".as_slice(), (5, 3)),
+        Ok(0)
+    );
+    assert_act_refused(&rt, &mut net, rt.alloc(), (-1, 0), NetError::NameTaken);
     Ok(())
 }
 
 fn full_of_arcs(rt: &impl Abort, alloc: Global) -> Result<Network, NetError> {
     let mut net = Network::new(alloc, 10)?;
     net.add_agent(alloc, b"a".as_slice(), Lean::Late)?;
-    place(rt, &mut net, alloc, 0, b"p".as_slice())?;
-    for _ in 0..MOST_ARCS {
-        join(rt, &mut net, 0, 1, 7)?;
+    act(rt, &mut net, alloc, b"p".as_slice(), (0, 1))?;
+    for _ in 2..MOST_ARCS {
+        join(rt, &mut net, (0, 1, 7))?;
     }
     Ok(net)
 }
@@ -124,8 +146,8 @@ fn refuses_arcs(rt: HostRuntime) -> Result<(), Fail> {
         (1, -GREATEST_BOUND - 1, NetError::BoundRange),
         (1, GREATEST_BOUND, NetError::TooManyArcs),
     ] {
-        assert_eq!(rt; join(&rt, &mut net, 0, to, bound), Err(want));
+        assert_eq!(rt; join(&rt, &mut net, (0, to, bound)), Err(want));
     }
-    assert_eq!(rt; net.arcs(), MOST_ARCS + 2);
+    assert_eq!(rt; net.arcs(), MOST_ARCS + 4);
     Ok(())
 }
