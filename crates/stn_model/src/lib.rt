@@ -13,7 +13,7 @@ pub mod schedule;
 pub use error::{NetError, OutOfMemory};
 pub use ids::{Act, AgentId, Constraint, Kind, Lean, PointId};
 pub use limits::{
-    GREATEST_BOUND, GREATEST_TIME, LONGEST_NAME, MOST_AGENTS, MOST_ARCS, MOST_POINTS,
+    GREATEST_BOUND, GREATEST_TIME, GREATEST_WALK, LONGEST_NAME, MOST_AGENTS, MOST_ARCS, MOST_POINTS,
 };
 pub use network::Network;
 pub use schedule::Schedule;

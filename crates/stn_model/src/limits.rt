@@ -12,6 +12,9 @@ pub const MOST_ARCS: u32 = 65_536;
 /// The greatest horizon, and the greatest magnitude of a bound: 2^40.
 pub const GREATEST_BOUND: i64 = 1_099_511_627_776;
 
+/// The greatest magnitude of the weight of a walk that passes no point twice, MOST_POINTS times the greatest bound: 2^53.
+pub const GREATEST_WALK: i64 = 9_007_199_254_740_992;
+
 /// The greatest magnitude of a time: 2^100.
 pub const GREATEST_TIME: i128 = 1_267_650_600_228_229_401_496_703_205_376;
 
