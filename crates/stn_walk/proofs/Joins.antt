@@ -7,10 +7,12 @@
 --   is_in-reverse                              a list turned round has the same points
 --   order-from_before_both, before_both-from_order  the eliminated points before both are those that the order has before both
 --   joined-from_order, order-from_joined       the points that an order joins are those that eliminations in this order join
-use Rattle.std.proofs.Common.{suc, ◌≡◌, ◌≢◌, ℕ, ◌+◌, ◌≤◌, List, [], ◌∷◌, ◌++◌, Bool, true, false, ◌&&◌, ◌||◌, not, cond, eqb, ap, sym, ◌∙◌, refl, length, arith, subst, inl, inr, ◌⊎◌}
+use Rattle.std.proofs.Common.{suc, ◌≡◌, ◌≢◌, ℕ, ◌+◌, ◌≤◌, List, [], ◌∷◌, ◌++◌, Bool, true, false, ◌&&◌, ◌||◌, not, cond, eqb, ap, sym, ◌∙◌, refl}
+use Rattle.std.proofs.Common.{length, arith, subst, inl, inr, ◌⊎◌}
 use Rattle.std.specs.Prelude.{◌==◌, nat_eq, nat_lt, reverse, if◌then◌else◌}
 use Rattle.std.specs.List.{AllByRecursion, position_or_len}
-use Rattle.std.proofs.lemmas.Bool.{ltb-true, lt-ltb}
+use Rattle.std.proofs.Math.Bool.{or-true, or_comm, and_comm}
+use Rattle.std.proofs.lemmas.Bool.{and_parts, ltb-true, lt-ltb}
 use Rattle.std.proofs.lemmas.Bool.Decides.{nat_tests}
 use Rattle.std.proofs.lemmas.List.{reverse-append, reverse-reverse}
 use Rattle.std.proofs.lemmas.List.Folds.{Any-from_list_any, list_any-from_Any, position_or_len_push}
@@ -20,12 +22,14 @@ use Rattle.stn_model.specs.Joined.{HasEdge, IsPath, ComesBefore, IsJoined}
 use Rattle.stn_model.specs.ArcWalks.{IsInner}
 use Rattle.stn_walk.specs.Eliminations.{is_in, before_both}
 use Rattle.stn_walk.specs.Joins.{has_edge, joined_of, HasPath}
+use Rattle.stn_walk.proofs.Members.{is_in-first, is_in-push}
 
 -- the two ends of one arc
 ends-from_test : (a : Constraint) (i j : ℕ) → (((a.from.0 == i) && (a.to.0 == j)) || ((a.from.0 == j) && (a.to.0 == i))) ≡ true
     → ((a.from.0 ≡ i) × (a.to.0 ≡ j)) ⊎ ((a.from.0 ≡ j) × (a.to.0 ≡ i))
 ends-from_test a i j h =
-    elim ((a.from.0 == i) && (a.to.0 == j)) as (λ b. ((a.from.0 == i) && (a.to.0 == j)) ≡ b → ((a.from.0 ≡ i) × (a.to.0 ≡ j)) ⊎ ((a.from.0 ≡ j) × (a.to.0 ≡ i))) [
+    elim ((a.from.0 == i) && (a.to.0 == j)) as
+    (λ b. ((a.from.0 == i) && (a.to.0 == j)) ≡ b → ((a.from.0 ≡ i) × (a.to.0 ≡ j)) ⊎ ((a.from.0 ≡ j) × (a.to.0 ≡ i))) [
       | true ↦ λ t. inl (grind (arith, nat_tests), grind (arith, nat_tests))
       | false ↦ λ t. let other : ((a.from.0 == j) && (a.to.0 == i)) ≡ true = (rw t at h) in inr (grind (arith, nat_tests), grind (arith, nat_tests))
     ] refl
@@ -61,22 +65,12 @@ all-wider P Q up [] all = tt
 all-wider P Q up (p ∷ ps) all = (up p all.0, all-wider P Q up ps all.1)
 
 -- a path through points of a set is one through points of each set that has these
-path-wider : (passes more : ℕ → Bool) (arcs : List Constraint) (i j : ℕ) → ((p : ℕ) → passes p ≡ true → more p ≡ true) → HasPath passes arcs i j → HasPath more arcs i j
+path-wider : (passes more : ℕ → Bool) (arcs : List Constraint) (i j : ℕ) → ((p : ℕ) → passes p ≡ true → more p ≡ true) → HasPath passes arcs i j
+    → HasPath more arcs i j
 path-wider passes more arcs i j up (inner, path, all) = (inner, path, all-wider (λ p. passes p ≡ true) (λ p. more p ≡ true) up inner all)
 
 in_more : (k : ℕ) (es : List ℕ) (p : ℕ) → is_in es p ≡ true → is_in (k ∷ es) p ≡ true
 in_more k es p h = rw h refl
-
-or_true : (b : Bool) → (b || true) ≡ true
-or_true true = refl
-or_true false = refl
-
-in_first : (k : ℕ) (es : List ℕ) → is_in (k ∷ es) k ≡ true
-in_first k es = (let same : (k == k) ≡ true = grind (arith, nat_tests) in ap (λ b. is_in es k || b) same ∙ or_true (is_in es k))
-
-both_true : (a b : Bool) → (a && b) ≡ true → (a ≡ true) × (b ≡ true)
-both_true true b h = (refl, h)
-both_true false b h = absurd (cc)
 
 or_left : (a b : Bool) → (a || b) ≡ true → b ≡ false → a ≡ true
 or_left true b h f = refl
@@ -89,10 +83,13 @@ path-from_joined arcs (k ∷ es) i j h =
     elim (joined_of arcs es i j) as (λ b. joined_of arcs es i j ≡ b → HasPath (is_in (k ∷ es)) arcs i j) [
       | true ↦ λ t. path-wider (is_in es) (is_in (k ∷ es)) arcs i j (in_more k es) (path-from_joined arcs es i j t)
       | false ↦ λ t.
-          let both = both_true (joined_of arcs es i k) (joined_of arcs es k j) (rw t at h) in
+          let both = and_parts (joined_of arcs es i k) (joined_of arcs es k j) (rw t at h) in
           let front = path-wider (is_in es) (is_in (k ∷ es)) arcs i k (in_more k es) (path-from_joined arcs es i k both.0) in
-          let rest = path-wider (is_in es) (is_in (k ∷ es)) arcs k j (in_more k es) (path-from_joined arcs es k j both.1) in
-          (front.0 ++ k ∷ rest.0, path-through arcs i k j front.0 rest.0 front.1 rest.1, all-through (λ p. is_in (k ∷ es) p ≡ true) k front.0 rest.0 front.2 (in_first k es) rest.2)
+          let rest = path-wider (is_in es) (is_in (k ∷ es)) arcs k j (in_more k es) (path-from_joined arcs es k j both.1) in (
+            front.0 ++ k ∷ rest.0,
+            path-through arcs i k j front.0 rest.0 front.1 rest.1,
+            all-through (λ p. is_in (k ∷ es) p ≡ true) k front.0 rest.0 front.2 (is_in-first k es) rest.2,
+          )
     ] refl
 
 -- a path through a set and k either stays in the set, or has a part in it before the first visit to k, and one after the last
@@ -121,33 +118,21 @@ joined-from_path arcs [] i j (p ∷ ps, path, all) = absurd (let f : false ≡ t
 joined-from_path arcs (k ∷ es) i j (ps, path, all) =
     elim (path-cut arcs es k i j ps path all) [
       | inl g ↦ rw (joined-from_path arcs es i j g) refl
-      | inr c ↦ rw (joined-from_path arcs es i k c.0, joined-from_path arcs es k j c.1) (or_true (joined_of arcs es i j))
+      | inr c ↦ rw (joined-from_path arcs es i k c.0, joined-from_path arcs es k j c.1) (or-true (joined_of arcs es i j))
     ]
 
 -- the direction does not matter
-or_turned : (a b : Bool) → (a || b) ≡ (b || a)
-or_turned true true = refl
-or_turned true false = refl
-or_turned false true = refl
-or_turned false false = refl
-
-and_turned : (a b : Bool) → (a && b) ≡ (b && a)
-and_turned true true = refl
-and_turned true false = refl
-and_turned false true = refl
-and_turned false false = refl
-
 pub edge-symmetric : (arcs : List Constraint) (i j : ℕ) → has_edge arcs i j ≡ has_edge arcs j i
 edge-symmetric [] i j = refl
 edge-symmetric (a ∷ arcs) i j =
-    let here = or_turned ((a.from.0 == i) && (a.to.0 == j)) ((a.from.0 == j) && (a.to.0 == i)) in
+    let here = or_comm ((a.from.0 == i) && (a.to.0 == j)) ((a.from.0 == j) && (a.to.0 == i)) in
     (λ t. here t || edge-symmetric arcs i j t)
 
 pub joined-symmetric : (arcs : List Constraint) (es : List ℕ) (i j : ℕ) → joined_of arcs es i j ≡ joined_of arcs es j i
 joined-symmetric arcs [] i j = edge-symmetric arcs i j
 joined-symmetric arcs (k ∷ es) i j =
     (λ t. joined-symmetric arcs es i j t || (joined-symmetric arcs es i k t && joined-symmetric arcs es k j t))
-    ∙ ap (λ b. joined_of arcs es j i || b) (and_turned (joined_of arcs es k i) (joined_of arcs es j k))
+    ∙ ap (λ b. joined_of arcs es j i || b) (and_comm (joined_of arcs es k i) (joined_of arcs es j k))
 
 -- a walk is a path without direction
 path-from_walk : (passes : ℕ → Bool) (arcs : List Constraint) (i j : ℕ) (w : List Constraint) → IsInner passes arcs i j w → HasPath passes arcs i j
@@ -167,13 +152,6 @@ pub joined-wider : (arcs : List Constraint) (es fs : List ℕ) (i j : ℕ) → (
 joined-wider arcs es fs i j up h = joined-from_path arcs fs i j (path-wider (is_in es) (is_in fs) arcs i j up (path-from_joined arcs es i j h))
 
 -- a list turned round
-is_in-push : (xs : List ℕ) (k p : ℕ) → is_in (xs ++ k ∷ []) p ≡ (is_in xs p || (p == k))
-is_in-push [] k p = refl
-is_in-push (x ∷ xs) k p = ap (λ b. b || (p == x)) (is_in-push xs k p) ∙ swapped (is_in xs p) (p == k) (p == x) where
-  swapped : (a b c : Bool) → ((a || b) || c) ≡ ((a || c) || b)
-  swapped true b c = refl
-  swapped false b c = or_turned b c
-
 reverse-push : (k : ℕ) (xs : List ℕ) → reverse (k ∷ xs) ≡ reverse xs ++ k ∷ []
 reverse-push k xs = reverse-append (k ∷ []) xs
 
@@ -200,7 +178,7 @@ place-in : (xs : List ℕ) (p : ℕ) → is_in xs p ≡ nat_lt (place_of xs p) (
 place-in [] p = grind (arith, nat_tests)
 place-in (x ∷ xs) p = ap (λ b. b || (p == x)) (place-in xs p) ∙ more (p == x) (place_of xs p) (length xs) where
   more : (b : Bool) (m n : ℕ) → (nat_lt m n || b) ≡ nat_lt (cond (not b) (1 + m) 0) (suc n)
-  more true m n = or_true (nat_lt m n) ∙ grind (arith, nat_tests)
+  more true m n = or-true (nat_lt m n) ∙ grind (arith, nat_tests)
   more false m n = grind (arith, nat_tests)
 
 -- the same with one point more at the end, in numbers: a, b and c are the places of p, i and j among the first n
@@ -241,14 +219,16 @@ before_both-places (k ∷ es) i j p =
     ∙ (λ t. nat_lt (place-push xs k p n refl t) (place-push xs k i n refl t) && nat_lt (place-push xs k p n refl t) (place-push xs k j n refl t)))
 
 -- eliminated points that come before both are the points that the order has before both
-before_both-order : (order : List ℕ) (i j p : ℕ) → is_in (before_both (reverse order) i j) p ≡ (nat_lt (place_of order p) (place_of order i) && nat_lt (place_of order p) (place_of order j))
+before_both-order : (order : List ℕ) (i j p : ℕ)
+    → is_in (before_both (reverse order) i j) p ≡ (nat_lt (place_of order p) (place_of order i) && nat_lt (place_of order p) (place_of order j))
 before_both-order order i j p =
     before_both-places (reverse order) i j p
     ∙ ap (λ (xs : List ℕ). nat_lt (place_of xs p) (place_of xs i) && nat_lt (place_of xs p) (place_of xs j)) (reverse-reverse order)
 
 pub order-from_before_both : (order : List ℕ) (i j p : ℕ) → is_in (before_both (reverse order) i j) p ≡ true → ComesBefore order p i × ComesBefore order p j
 order-from_before_both order i j p h =
-    let both = both_true (nat_lt (place_of order p) (place_of order i)) (nat_lt (place_of order p) (place_of order j)) (sym (before_both-order order i j p) ∙ h) in
+    let both =
+    and_parts (nat_lt (place_of order p) (place_of order i)) (nat_lt (place_of order p) (place_of order j)) (sym (before_both-order order i j p) ∙ h) in
     (ltb-true (place_of order p) (place_of order i) both.0, ltb-true (place_of order p) (place_of order j) both.1)
 
 pub before_both-from_order : (order : List ℕ) (i j p : ℕ) → ComesBefore order p i × ComesBefore order p j → is_in (before_both (reverse order) i j) p ≡ true
@@ -257,22 +237,27 @@ before_both-from_order order i j p h =
     ∙ (λ t. lt-ltb (place_of order p) (place_of order i) h.0 t && lt-ltb (place_of order p) (place_of order j) h.1 t)
 
 -- the points that an order joins are those joined once the points before both are eliminated
-pub joined-from_order : (arcs : List Constraint) (order : List ℕ) (i j : ℕ) → IsJoined arcs order i j → (i ≢ j) × (joined_of arcs (before_both (reverse order) i j) i j ≡ true)
+pub joined-from_order : (arcs : List Constraint) (order : List ℕ) (i j : ℕ) → IsJoined arcs order i j
+    → (i ≢ j) × (joined_of arcs (before_both (reverse order) i j) i j ≡ true)
 joined-from_order arcs order i j h = (
   h.different,
   joined-from_path arcs (before_both (reverse order) i j) i j (
     h.inner,
     h.path,
-    all-wider (λ p. ComesBefore order p i × ComesBefore order p j) (λ p. is_in (before_both (reverse order) i j) p ≡ true) (before_both-from_order order i j) h.inner h.before,
+    all-wider (λ p. ComesBefore order p i × ComesBefore order p j) (λ p. is_in (before_both (reverse order) i j) p ≡ true)
+        (before_both-from_order order i j) h.inner h.before,
   ),
 )
 
-pub order-from_joined : (arcs : List Constraint) (order : List ℕ) (i j : ℕ) → i ≢ j → joined_of arcs (before_both (reverse order) i j) i j ≡ true → IsJoined arcs order i j
+pub order-from_joined : (arcs : List Constraint) (order : List ℕ) (i j : ℕ) → i ≢ j → joined_of arcs (before_both (reverse order) i j) i j ≡ true
+    → IsJoined arcs order i j
 order-from_joined arcs order i j apart h =
     let path = path-from_joined arcs (before_both (reverse order) i j) i j h in
     record {
       different = apart;
       inner = path.0;
       path = path.1;
-      before = all-wider (λ p. is_in (before_both (reverse order) i j) p ≡ true) (λ p. ComesBefore order p i × ComesBefore order p j) (order-from_before_both order i j) path.0 path.2;
+      before =
+          all-wider (λ p. is_in (before_both (reverse order) i j) p ≡ true) (λ p. ComesBefore order p i × ComesBefore order p j)
+          (order-from_before_both order i j) path.0 path.2;
     }

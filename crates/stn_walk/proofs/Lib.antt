@@ -16,6 +16,7 @@ pub mod Exits
 pub mod Finals
 pub mod LightWalks
 pub mod NewArcs
+pub mod Members
 pub mod Joins
 pub mod Potentials
 pub mod Distances
