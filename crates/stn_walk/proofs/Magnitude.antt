@@ -5,6 +5,7 @@ use Rattle.std.proofs.lemmas.Bool.{cases_eq}
 use Rattle.std.proofs.lemmas.List.{length-map}
 use Rattle.stn_model.specs.declared.ids.Constraint.{Constraint}
 use Rattle.stn_model.specs.Arcs.{to_at}
+use Rattle.stn_model.specs.Limits.{greatest_bound}
 use Rattle.stn_model.specs.Walks.{IsWalk, weight, heads, AllDifferent, PassesNoPointTwice}
 use Rattle.stn_walk.specs.ClosedParts.{AreWithin}
 use Rattle.stn_walk.proofs.Different.{few_different}
@@ -13,7 +14,7 @@ use Rattle.stn_walk.proofs.Heads.{in_range, heads_below}
 module _ (list : List Constraint) (points : ℕ) (within : AreWithin points list) where
   -- each arc adds at most 2^40
   pub walk_weighs : (i j : ℕ) (ns : List ℕ) → IsWalk list i j ns
-      → (neg_ℤ (pos (1099511627776 * length ns)) ≤ℤ weight list ns) × (weight list ns ≤ℤ pos (1099511627776 * length ns))
+      → (neg_ℤ (pos (greatest_bound * length ns)) ≤ℤ weight list ns) × (weight list ns ≤ℤ pos (greatest_bound * length ns))
   walk_weighs i j [] w = (omega (arith, ints), omega (arith, ints))
   walk_weighs i j (n ∷ ns) w =
       let rest = walk_weighs (to_at list n) j ns w.2 in
@@ -33,7 +34,7 @@ module _ (list : List Constraint) (points : ℕ) (within : AreWithin points list
       omega arith
 
   pub simple_light : (i j : ℕ) (ns : List ℕ) → IsWalk list i j ns → PassesNoPointTwice list i j ns
-      → (length ns ≤ points) × (neg_ℤ (pos (1099511627776 * points)) ≤ℤ weight list ns) × (weight list ns ≤ℤ pos (1099511627776 * points))
+      → (length ns ≤ points) × (neg_ℤ (pos (greatest_bound * points)) ≤ℤ weight list ns) × (weight list ns ≤ℤ pos (greatest_bound * points))
   simple_light i j ns w s =
       let few = few_arcs i j ns w s in
       let weighs = walk_weighs i j ns w in

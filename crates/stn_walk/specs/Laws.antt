@@ -2,6 +2,7 @@
 -- NormalFormsAreThere, WalksArePruned, SimpleWalksAreLight; and over walks as lists of arcs ArcWeightsAdd, SchedulesBoundArcWalks, ArcCyclesAreFound.
 use Rattle.std.specs.Prelude.{◌≡◌, ℕ, Bool, ◌<ℤ◌, ◌*◌, ◌<◌, ◌≤◌, pos, neg_ℤ, ◌+ℤ◌, ◌-ℤ◌, ◌≤ℤ◌, ℤ, List, ◌++◌, length, take, drop, ◌⊎◌}
 use Rattle.stn_model.specs.declared.ids.Constraint.{Constraint}
+use Rattle.stn_model.specs.Limits.{greatest_bound}
 use Rattle.stn_model.specs.Schedules.{KeepsArcs, IsConsistent, time_at}
 use Rattle.stn_model.specs.Walks.{IsWalk, weight, PassesNoPointTwice, IsNegativeClosed, IsNegativeCycle, IsNormal}
 use Rattle.stn_model.specs.ArcWalks.{GoesOn, IsArcWalk, arcs_weight}
@@ -49,11 +50,11 @@ NormalFormsAreThere =
 abbrev pub WalksArePruned : Type 0
 WalksArePruned = (list : List Constraint) (i j : ℕ) (ns : List ℕ) → IsWalk list i j ns → PrunedWalk list i j ns
 
--- a walk that passes no point twice has at most as many arcs as there are points, and so its weight is at most 2^40 times as many; for 4,096 points that is 2^52
+-- a walk that passes no point twice has at most as many arcs as there are points, and so its weight is at most the greatest bound times as many
 abbrev pub SimpleWalksAreLight : Type 0
 SimpleWalksAreLight =
     (list : List Constraint) (points i j : ℕ) (ns : List ℕ) → AreWithin points list → IsWalk list i j ns → PassesNoPointTwice list i j ns
-    → (length ns ≤ points) × (neg_ℤ (pos (1099511627776 * points)) ≤ℤ weight list ns) × (weight list ns ≤ℤ pos (1099511627776 * points))
+    → (length ns ≤ points) × (neg_ℤ (pos (greatest_bound * points)) ≤ℤ weight list ns) × (weight list ns ≤ℤ pos (greatest_bound * points))
 
 -- one walk of arcs after another is a walk through points of the same kind, and their weights add
 abbrev pub ArcWeightsAdd : Type 0

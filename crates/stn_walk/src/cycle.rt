@@ -6,10 +6,7 @@ ghost use Rattle.stn_walk.specs.Parts.{AreInRange};
 
 use crate::walk::Walk;
 use crate::weights::weight;
-use stn_model::Network;
-
-/// The most points of a network, the reference point among them.
-const MOST_POINTS: usize = 4096;
+use stn_model::{MOST_POINTS, Network};
 
 /// Whether it is a negative cycle: a closed walk that is not empty, passes no point twice (the point
 /// where it begins and ends counts once), and has a weight below 0. It may begin at any of its arcs.
@@ -34,7 +31,7 @@ fn passes_no_point_twice(net: &Network, arcs: &[u32]) -> bool
     ensures { IsTrue result ↔ walks.AllDifferent (walks.heads (arcs_of net.now) arcs.now) }
 {
     let _limits = net.points();
-    let mut met = [false; MOST_POINTS];
+    let mut met = [false; MOST_POINTS as usize];
     for n in arcs {
         let head = net.arc(*n).to.0 as usize;
         if met[head] {

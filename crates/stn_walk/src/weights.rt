@@ -1,5 +1,6 @@
 //! Weights of walks: the sums of their arcs' bounds.
 ghost use Rattle.std.specs.Prelude.{◌≡◌, ◌*◌, ◌<◌, ◌≤ℤ◌, pos, neg_ℤ, length, SomeIff};
+ghost use Rattle.stn_model.specs.Limits.{greatest_bound};
 ghost use Rattle.stn_model.specs.Net.{arcs_of};
 ghost use Rattle.stn_model.specs.Walks as walks;
 ghost use Rattle.stn_walk.specs.Parts.{AreInRange};
@@ -41,8 +42,8 @@ fn weight_of(net: &Network, arcs: &[u32], from: PointId, to: PointId) -> Option<
 pub(crate) fn sum_of<A: ArcList>(arcs: &A, numbers: &[u32]) -> i128
     requires { AreInRange (A.list arcs.now) numbers.now }
     ensures sum { result ≡ walks.weight (A.list arcs.now) numbers.now }
-    ensures low { neg_ℤ (pos (1099511627776 * length numbers.now)) ≤ℤ result }
-    ensures high { result ≤ℤ pos (1099511627776 * length numbers.now) }
+    ensures low { neg_ℤ (pos (greatest_bound * length numbers.now)) ≤ℤ result }
+    ensures high { result ≤ℤ pos (greatest_bound * length numbers.now) }
 {
     let mut sum = 0i128;
     for n in numbers {

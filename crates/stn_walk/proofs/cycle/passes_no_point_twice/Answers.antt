@@ -1,12 +1,13 @@
 use Rattle.std.proofs.Common.{◌≡◌, ℕ, ◌<◌, false, length, refl, ap, subst, arith}
 use Rattle.std.proofs.lemmas.Bool.{false≢true}
 use Rattle.std.proofs.lemmas.List.{length-replicate}
+use Rattle.stn_model.specs.Limits.{most_points}
 use Rattle.stn_model.specs.Net.{arcs_of}
 use Rattle.stn_walk.proofs.Meets.{AreMet, AreMet-none, AreMet-repeat, AreMet-all}
 use Rattle.stn_walk.proofs.cycle.passes_no_point_twice.Goals as goal
 
 pub loop-n-init : goal.loop-n-init
-loop-n-init c = record { met = AreMet-none (arcs_of c.args.net.now) c.args.arcs.now 4096; size = length-replicate 4096 false }
+loop-n-init c = record { met = AreMet-none (arcs_of c.args.net.now) c.args.arcs.now most_points; size = length-replicate most_points false }
 
 pub returns-then-met-head : goal.returns-then-met-head
 returns-then-met-head c = (
