@@ -20,3 +20,4 @@ pub mod Members
 pub mod Joins
 pub mod Potentials
 pub mod Distances
+mod Detours

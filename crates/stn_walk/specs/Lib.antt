@@ -7,3 +7,4 @@ pub mod Laws
 pub mod Eliminations
 pub mod Joins
 pub mod Distances
+pub mod Detours

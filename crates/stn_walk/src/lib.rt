@@ -3,6 +3,7 @@
 
 pub mod arc_list;
 pub mod cycle;
+pub mod detour;
 pub mod laws;
 mod normal_form;
 mod path;
@@ -12,6 +13,7 @@ pub mod weights;
 
 pub use arc_list::ArcList;
 pub use cycle::is_negative_cycle;
+pub use detour::avoid;
 pub use pruning::{negative_cycle, prune, prune_cycle};
 pub use walk::Walk;
 pub use weights::weight;
