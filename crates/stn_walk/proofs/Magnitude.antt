@@ -5,8 +5,11 @@ use Rattle.std.proofs.lemmas.Bool.{cases_eq}
 use Rattle.std.proofs.lemmas.List.{length-map}
 use Rattle.stn_model.specs.declared.ids.Constraint.{Constraint}
 use Rattle.stn_model.specs.Arcs.{to_at}
-use Rattle.stn_model.specs.Limits.{greatest_bound}
+use Rattle.stn_model.specs.Limits.{greatest_bound, greatest_walk}
+use Rattle.stn_model.specs.Net.{Net, arcs_of, point_count}
+use Rattle.stn_model.specs.Valid.{IsNetwork}
 use Rattle.stn_model.specs.Walks.{IsWalk, weight, heads, AllDifferent, PassesNoPointTwice}
+use Rattle.stn_model.proofs.ArcLemmas.{arcs_within}
 use Rattle.stn_walk.specs.ClosedParts.{AreWithin}
 use Rattle.stn_walk.proofs.Different.{few_different}
 use Rattle.stn_walk.proofs.Heads.{in_range, heads_below}
@@ -41,3 +44,13 @@ module _ (list : List Constraint) (points : ℕ) (within : AreWithin points list
       let low = weighs.0 in
       let high = weighs.1 in
       (few, omega (arith, ints), omega (arith, ints))
+
+-- a network has so few points that this is at most 2^53
+pub network_light : (net : Net) → IsNetwork net → (i j : ℕ) (ns : List ℕ) → IsWalk (arcs_of net) i j ns → PassesNoPointTwice (arcs_of net) i j ns
+    → (neg_ℤ (pos greatest_walk) ≤ℤ weight (arcs_of net) ns) × (weight (arcs_of net) ns ≤ℤ pos greatest_walk)
+network_light net valid i j ns w s =
+    let light = simple_light (arcs_of net) (point_count net) (arcs_within net valid) i j ns w s in
+    let low = light.1 in
+    let high = light.2 in
+    let few = valid.few_points in
+    (omega (arith, ints), omega (arith, ints))

@@ -1,8 +1,11 @@
 -- Laws about walks over any list of arcs: WeightsAdd, SchedulesBoundWalks, ClosedWalksExclude, WalksAreCut, CyclesAreFound, CyclesTurn,
--- NormalFormsAreThere, WalksArePruned, SimpleWalksAreLight; and over walks as lists of arcs ArcWeightsAdd, SchedulesBoundArcWalks, ArcCyclesAreFound.
+-- NormalFormsAreThere, WalksArePruned, SimpleWalksAreLight, and of networks NetworkWalksAreLight; and over walks as lists of arcs ArcWeightsAdd,
+-- SchedulesBoundArcWalks, ArcCyclesAreFound.
 use Rattle.std.specs.Prelude.{◌≡◌, ℕ, Bool, ◌<ℤ◌, ◌*◌, ◌<◌, ◌≤◌, pos, neg_ℤ, ◌+ℤ◌, ◌-ℤ◌, ◌≤ℤ◌, ℤ, List, ◌++◌, length, take, drop, ◌⊎◌}
 use Rattle.stn_model.specs.declared.ids.Constraint.{Constraint}
-use Rattle.stn_model.specs.Limits.{greatest_bound}
+use Rattle.stn_model.specs.Limits.{greatest_bound, greatest_walk}
+use Rattle.stn_model.specs.Net.{Net, arcs_of}
+use Rattle.stn_model.specs.Valid.{IsNetwork}
 use Rattle.stn_model.specs.Schedules.{KeepsArcs, IsConsistent, time_at}
 use Rattle.stn_model.specs.Walks.{IsWalk, weight, PassesNoPointTwice, IsNegativeClosed, IsNegativeCycle, IsNormal}
 use Rattle.stn_model.specs.ArcWalks.{GoesOn, IsArcWalk, arcs_weight}
@@ -55,6 +58,12 @@ abbrev pub SimpleWalksAreLight : Type 0
 SimpleWalksAreLight =
     (list : List Constraint) (points i j : ℕ) (ns : List ℕ) → AreWithin points list → IsWalk list i j ns → PassesNoPointTwice list i j ns
     → (length ns ≤ points) × (neg_ℤ (pos (greatest_bound * points)) ≤ℤ weight list ns) × (weight list ns ≤ℤ pos (greatest_bound * points))
+
+-- such a walk of a network weighs at most 2^53 in magnitude
+abbrev pub NetworkWalksAreLight : Type 0
+NetworkWalksAreLight =
+    (net : Net) (i j : ℕ) (ns : List ℕ) → IsNetwork net → IsWalk (arcs_of net) i j ns → PassesNoPointTwice (arcs_of net) i j ns
+    → (neg_ℤ (pos greatest_walk) ≤ℤ weight (arcs_of net) ns) × (weight (arcs_of net) ns ≤ℤ pos greatest_walk)
 
 -- one walk of arcs after another is a walk through points of the same kind, and their weights add
 abbrev pub ArcWeightsAdd : Type 0

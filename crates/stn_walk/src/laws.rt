@@ -1,7 +1,8 @@
 //! Laws about walks over any list of arcs, a network's or another, for the crates above to cite: functions with an empty body, whose
 //! contract is the law.
-ghost use Rattle.stn_walk.specs.Laws.{WeightsAdd, SchedulesBoundWalks, ClosedWalksExclude, WalksAreCut, CyclesAreFound, CyclesTurn, NormalFormsAreThere, WalksArePruned, SimpleWalksAreLight, ArcWeightsAdd, SchedulesBoundArcWalks, ArcCyclesAreFound};
+ghost use Rattle.stn_walk.specs.Laws.{WeightsAdd, SchedulesBoundWalks, ClosedWalksExclude, WalksAreCut, CyclesAreFound, CyclesTurn, NormalFormsAreThere, WalksArePruned, SimpleWalksAreLight, NetworkWalksAreLight, ArcWeightsAdd, SchedulesBoundArcWalks, ArcCyclesAreFound};
 ghost use Rattle.stn_walk.specs.Eliminations.{CellsAreLeast, StaysNonNegative};
+ghost use Rattle.stn_walk.specs.Joins.{JoinedByElimination};
 ghost use Rattle.stn_walk.specs.Distances.{LeastWalksAreBounds, InnerWeightsAreBounds, NoNegativeIsConsistent, LeastBoundsAreThere};
 
 /// One walk after another is a walk, and their weights add.
@@ -49,6 +50,11 @@ pub fn simple_walks_are_light()
     ensures { SimpleWalksAreLight }
 {}
 
+/// A walk of a network that passes no point twice weighs at most 2^53 in magnitude.
+pub fn network_walks_are_light()
+    ensures { NetworkWalksAreLight }
+{}
+
 /// One walk of arcs after another is a walk, and their weights add.
 pub fn arc_weights_add()
     ensures { ArcWeightsAdd }
@@ -73,6 +79,11 @@ pub fn cells_are_least()
 /// below 0.
 pub fn stays_nonnegative()
     ensures { StaysNonNegative }
+{}
+
+/// The points that an order joins, by paths, are those that eliminations in this order join (Rose, Tarjan and Lueker 1976).
+pub fn joined_by_elimination()
+    ensures { JoinedByElimination }
 {}
 
 /// The least weight of the walks between two points is the least bound, of arcs that some schedule satisfies (Dechter, Meiri and Pearl 1991).
