@@ -11,7 +11,7 @@ use Rattle.net_text.specs.Fields.{is_blank, is_filled, fields}
 use Rattle.net_text.specs.Lines.{line_of, is_text_byte, is_text, is_skipped}
 use Rattle.net_text.specs.Networks.{fields_do, line_does}
 use Rattle.net_text.specs.declared.stage.Stage.{Stage}
-use Rattle.net_text.specs.declared.stage.Step.TheVariants.{Goes, Fails}
+use Rattle.net_text.specs.Networks.Step.{Goes, Fails}
 use Rattle.net_text.specs.declared.cause.TextCause.TheVariants as cause
 use Rattle.net_text.specs.Plain.{spaced}
 

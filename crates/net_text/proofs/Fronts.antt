@@ -1,7 +1,7 @@
 -- A vector to which pieces are appended: what stands in it, and its front, which appends leave as it is.
-use Rattle.std.proofs.Common.{◌≡◌, ℕ, ◌+◌, ◌≤◌, Result, Ok, Err, OnErr, List, ◌++◌, length, take, get_or, ◌<◌, refl, sym, ap, ◌∙◌, arith, length-append}
+use Rattle.std.proofs.Common.{◌≡◌, ℕ, ◌+◌, ◌≤◌, Result, Ok, Err, OnErr, List, ◌++◌, length, take, drop, get_or, ◌<◌, refl, sym, ap, ◌∙◌, arith, length-append}
 use Rattle.std.specs.List.{flat_map}
-use Rattle.std.proofs.lemmas.List.{flat_map_more, take_more, take_at, take-take, append_assoc, take_all}
+use Rattle.std.proofs.lemmas.List.{flat_map_more, take_more, take_at, take-take, append_assoc, take_all, take-append-drop}
 use Rattle.net_text.specs.Plain.{HasFront}
 
 -- a list after one more of its lines, and after all of them
@@ -29,6 +29,10 @@ pub front_trans : (a x b c : List ℕ) → b ≡ a ++ x → HasFront b c → Has
 front_trans a x b c e h =
     let short : length a ≤ length b = omega (arith, ap length e, length-append a x) in
     sym (take-take (length a) (length b) c short) ∙ ap (take (length a)) h ∙ front_append a x b e
+
+pub front_on : (a b c : List ℕ) → HasFront a b → HasFront b c → HasFront a c
+front_on a b c h k =
+    front_trans a (drop (length a) b) b c (sym (take-append-drop (length a) b) ∙ ap (λ (x : List ℕ). x ++ drop (length a) b) h) k
 
 -- what holds at any result holds at an `Err`
 pub on_err_from : {T E P : Type 0} (r : Result T E) → P → OnErr r P

@@ -13,3 +13,8 @@ pub mod Meanings
 pub mod Counts
 pub mod Progress
 pub mod UsedLines
+pub mod FirstFields
+pub mod ReadPrefix
+pub mod SkippedLines
+pub mod PlaceLines
+pub mod BoundLines

@@ -35,7 +35,7 @@ position_some p xs i lt before here =
     let at : position_or_len p xs ≡ i = position_or_len_is p xs i [] (omega arith) before (λ l. here) in
     ap (λ n. cond (nat_lt n (length xs)) (Some n) None) at ∙ ap (λ b. cond b (Some i) None) (lt-ltb i (length xs) lt)
 
-position_none : (p : List ℕ → Bool) (xs : List (List ℕ)) → ((k : ℕ) → k < length xs → p (get_or xs k []) ≡ false) → position p xs ≡ None
+pub position_none : (p : List ℕ → Bool) (xs : List (List ℕ)) → ((k : ℕ) → k < length xs → p (get_or xs k []) ≡ false) → position p xs ≡ None
 position_none p xs before =
     let at : position_or_len p xs ≡ length xs = position_or_len_is p xs (length xs) [] (omega arith) before (λ l. absurd (omega arith)) in
     ap (λ n. cond (nat_lt n (length xs)) (Some n) None) at ∙ ap (λ b. cond b (Some (length xs)) None) (le-ltb (length xs) (length xs) (omega arith))

@@ -6,10 +6,9 @@ use Rattle.net_text.specs.declared.cause.TextError.{TextError}
 use Rattle.net_text.specs.declared.cause.TextError.TheVariants.{At}
 use Rattle.net_text.specs.declared.read.NetRead.{NetRead}
 use Rattle.net_text.specs.declared.stage.Stage.{Stage}
-use Rattle.net_text.specs.declared.stage.Step.{Step}
-use Rattle.net_text.specs.declared.stage.Step.TheVariants.{Goes, Ends, Fails}
+use Rattle.net_text.specs.Networks.Step.{Goes, Ends, Fails}
 use Rattle.net_text.specs.Lines.{lines, Sized, IsTaken, first_unskipped, is_skipped}
-use Rattle.net_text.specs.Networks.{line_does, conclude, read_from, missing}
+use Rattle.net_text.specs.Networks.{Step, line_does, conclude, read_from, missing}
 
 -- what is said from a stage on, where so many lines and bytes were taken
 abbrev pub says_from : Stage → ℕ → ℕ → List ℕ → Result NetRead TextError

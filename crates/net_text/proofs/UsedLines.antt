@@ -7,10 +7,9 @@ use Rattle.net_text.specs.declared.cause.TextError.{TextError}
 use Rattle.net_text.specs.declared.read.NetRead.{NetRead}
 use Rattle.net_text.specs.declared.stage.Stage.{Stage}
 use Rattle.net_text.specs.declared.stage.Stage.TheVariants.{Start}
-use Rattle.net_text.specs.declared.stage.Step.{Step}
-use Rattle.net_text.specs.declared.stage.Step.TheVariants.{Goes, Ends, Fails}
 use Rattle.net_text.specs.Lines.{parts, line_of, lines_of, lines, Sized, EndsInFeed}
-use Rattle.net_text.specs.Networks.{line_does, conclude, read_from, text_of}
+use Rattle.net_text.specs.Networks.{Step, line_does, conclude, read_from, text_of}
+use Rattle.net_text.specs.Networks.Step.{Goes, Ends, Fails}
 use Rattle.net_text.specs.Laws.{NothingAfterIsRead}
 use Rattle.net_text.proofs.Parts.{lines_before, some_byte}
 
@@ -18,13 +17,13 @@ abbrev is_feed : ℕ → Bool
 is_feed b = b == 10
 
 -- the first line of bytes that end in a line feed, and what follows it
-record Cut (front : List ℕ) : Type 0 where
-  line : List ℕ
-  left : List ℕ
-  is : front ≡ line ++ 10 ∷ left
-  splits : (more : List ℕ) → parts (line ++ 10 ∷ more) ≡ line ∷ parts more
+pub record Cut (front : List ℕ) : Type 0 where
+  pub line : List ℕ
+  pub left : List ℕ
+  pub is : front ≡ line ++ 10 ∷ left
+  pub splits : (more : List ℕ) → parts (line ++ 10 ∷ more) ≡ line ∷ parts more
 
-cut : (front : List ℕ) → EndsInFeed front → Cut front
+pub cut : (front : List ℕ) → EndsInFeed front → Cut front
 cut [] fed = absurd fed
 cut (b ∷ []) fed = record { line = []; left = []; is = ap (λ (x : ℕ). x ∷ []) fed; splits = λ more. refl }
 cut (b ∷ c ∷ bs) fed =
@@ -41,13 +40,13 @@ cut (b ∷ c ∷ bs) fed =
     ]) refl
 
 -- what follows the first line is nothing, or ends in a line feed too
-left_fed : (line left : List ℕ) → EndsInFeed (line ++ 10 ∷ left) → (left ≡ []) ⊎ EndsInFeed left
+pub left_fed : (line left : List ℕ) → EndsInFeed (line ++ 10 ∷ left) → (left ≡ []) ⊎ EndsInFeed left
 left_fed [] [] fed = inl refl
 left_fed [] (c ∷ cs) fed = inr fed
 left_fed (b ∷ []) left fed = left_fed [] left fed
 left_fed (b ∷ c ∷ line) left fed = left_fed (c ∷ line) left fed
 
-lines_cut : (front : List ℕ) (c : Cut front) (rest : List ℕ) → lines (front ++ rest) ≡ record { text = line_of c.line; size = length c.line + 1 } ∷ lines (c.left ++ rest)
+pub lines_cut : (front : List ℕ) (c : Cut front) (rest : List ℕ) → lines (front ++ rest) ≡ record { text = line_of c.line; size = length c.line + 1 } ∷ lines (c.left ++ rest)
 lines_cut front c rest =
     ap (λ (bs : List ℕ). lines (bs ++ rest)) c.is
     ∙ ap lines (append_assoc c.line (10 ∷ c.left) rest)

@@ -1,15 +1,19 @@
--- What is known of a line that was to add something to a network: it did what the grammar says, or memory ran out.
+-- What is known of a line that was to add something to a network: it did what the grammar says, or memory ran out: refusal_of, Adds,
+-- Finishes, TakesIn, Takes, IsGiven.
 use Rattle.std.specs.Prelude.{◌≡◌, ℕ, List, map, Result, Ok, Err, Option, Some, None}
 use Rattle.stn_model.specs.declared.error.NetError.{NetError}
 use Rattle.stn_model.specs.declared.error.NetError.TheVariants as refused
 use Rattle.stn_model.specs.Net.{Net}
 use Rattle.net_text.specs.declared.refusal.Refusal.{Refusal}
 use Rattle.net_text.specs.declared.refusal.Refusal.TheVariants as refusal
+use Rattle.net_text.specs.declared.version.Version.{Version}
+use Rattle.net_text.specs.declared.stage.Stage.{Stage}
 use Rattle.net_text.specs.declared.stage.Stage.TheVariants.{Building}
-use Rattle.net_text.specs.declared.stage.Step.{Step}
-use Rattle.net_text.specs.declared.stage.Step.TheVariants.{Goes, Fails}
+use Rattle.net_text.specs.declared.stage.Next.{Next}
+use Rattle.net_text.specs.declared.stage.Next.TheVariants as next
+use Rattle.net_text.specs.Networks.Step.{Goes, Ends, Fails}
 use Rattle.net_text.specs.declared.cause.TextCause.{TextCause}
-use Rattle.net_text.specs.Networks.{cause_of}
+use Rattle.net_text.specs.Networks.{Step, cause_of}
 
 -- a network's refusal: want of memory is no cause
 abbrev pub refusal_of : NetError → Refusal
@@ -22,19 +26,33 @@ refusal_of refused.SamePoint = refusal.Fails (cause_of refused.SamePoint)
 refusal_of refused.BoundRange = refusal.Fails (cause_of refused.BoundRange)
 refusal_of refused.HorizonRange = refusal.Fails (cause_of refused.HorizonRange)
 refusal_of refused.PointsClosed = refusal.Fails (cause_of refused.PointsClosed)
+refusal_of refused.NegativeDuration = refusal.Fails (cause_of refused.NegativeDuration)
 refusal_of refused.OutOfMemory = refusal.OutOfMemory
 
--- a line that does this step left this network, or was refused so
-abbrev pub Adds : Step → Result (Unit {0}) Refusal → Net → Type 0
-Adds step (Ok done) net = step ≡ Goes (Building net)
-Adds step (Err (refusal.Fails cause)) net = step ≡ Fails cause
-Adds step (Err refusal.OutOfMemory) net = Unit {0}
+-- a line that adds this left this network, or was refused so
+abbrev pub Adds : Result Net TextCause → Result (Unit {0}) Refusal → Net → Type 0
+Adds r (Ok done) net = r ≡ Ok net
+Adds r (Err (refusal.Fails cause)) net = r ≡ Err cause
+Adds r (Err refusal.OutOfMemory) net = Unit {0}
 
--- the step of a line that left this network, or was refused so
-abbrev pub Finishes : Result (Unit {0}) Refusal → Net → Step → Type 0
-Finishes (Ok done) net step = step ≡ Goes (Building net)
-Finishes (Err (refusal.Fails cause)) net step = step ≡ Fails cause
-Finishes (Err refusal.OutOfMemory) net step = ⊥
+-- what comes of a line that added something, or was refused
+abbrev pub Finishes : Result (Unit {0}) Refusal → Next → Type 0
+Finishes (Ok done) n = n ≡ next.Goes
+Finishes (Err (refusal.Fails cause)) n = n ≡ next.Fails cause
+Finishes (Err refusal.OutOfMemory) n = ⊥
+
+-- the line of a network of that version does this, and left this network
+abbrev pub TakesIn : Version → Next → Net → Step → Type 0
+TakesIn v next.Goes net step = step ≡ Goes (Building v net)
+TakesIn v next.Ends net step = step ≡ Ends net
+TakesIn v (next.Fails c) net step = step ≡ Fails c
+
+-- the line does this, and the text has come that far
+abbrev pub Takes : Next → Stage → Step → Type 0
+Takes next.Goes s step = step ≡ Goes s
+Takes next.Ends (Building v net) step = step ≡ Ends net
+Takes next.Ends s step = ⊥
+Takes (next.Fails c) s step = step ≡ Fails c
 
 -- what was found, or the test that fails where nothing was
 abbrev pub IsGiven : {A B : Type 0} → Option A → (B → A) → TextCause → Result B Refusal → Type 0

@@ -2,6 +2,7 @@ pub mod Lines
 pub mod Fields
 pub mod Numbers
 pub mod Words
+pub mod Versions
 pub mod Networks
 pub mod Plain
 pub mod Causes

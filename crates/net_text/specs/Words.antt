@@ -2,7 +2,7 @@
 use Rattle.std.specs.Prelude.{ℕ, List, Option, Some, None, codes, if◌then◌else◌}
 use Rattle.std.specs.Str.{bytes_eq}
 use Rattle.net_text.specs.declared.words.Word.{Word}
-use Rattle.net_text.specs.declared.words.Word.TheVariants.{Horizon, Agent, Point, Bound, Arc, End}
+use Rattle.net_text.specs.declared.words.Word.TheVariants.{Horizon, Agent, Point, Act, Bound, Arc, End}
 use Rattle.stn_model.specs.declared.ids.Lean.{Lean}
 use Rattle.stn_model.specs.declared.ids.Lean.TheVariants.{Early, Late, Middle}
 
@@ -12,10 +12,11 @@ word_of field =
     if bytes_eq field (codes "horizon") then Some Horizon
     else (if bytes_eq field (codes "agent") then Some Agent
     else (if bytes_eq field (codes "point") then Some Point
+    else (if bytes_eq field (codes "act") then Some Act
     else (if bytes_eq field (codes "bound") then Some Bound
     else (if bytes_eq field (codes "arc") then Some Arc
     else (if bytes_eq field (codes "end") then Some End
-    else None)))))
+    else None))))))
 
 abbrev pub lean_of : List ℕ → Option Lean
 lean_of field =

@@ -9,7 +9,7 @@ pub enum TextCause {
     NotText,
     /// The first line is no header.
     NoHeader,
-    /// The version is not 1.
+    /// The version is neither 1 nor 2.
     Version,
     /// The line begins with no word of the grammar, or has another word where one of a few is due.
     UnknownWord,
@@ -31,9 +31,9 @@ pub enum TextCause {
     NameTaken,
     /// There are 64 agents.
     TooManyAgents,
-    /// There are 4,096 points.
+    /// There is no room for the points of the line: a text of version 1 has at most 4,096, a network at most 8,192.
     TooManyPoints,
-    /// The arcs of the line would be more than 65,536 with those before.
+    /// The arcs of the line would be more than 65,536 with those before, the arcs of acts among them.
     TooManyArcs,
     /// The arc begins and ends at one point.
     SamePoint,
@@ -43,6 +43,8 @@ pub enum TextCause {
     HorizonRange,
     /// An arc stands before the point.
     PointsClosed,
+    /// The least duration of an act is below 0.
+    NegativeDuration,
     /// A batch is begun and not closed.
     BatchOpen,
     /// The batch has no arc.
@@ -86,6 +88,7 @@ impl TextCause {
             TextCause::BoundRange => b"BoundRange",
             TextCause::HorizonRange => b"HorizonRange",
             TextCause::PointsClosed => b"PointsClosed",
+            TextCause::NegativeDuration => b"NegativeDuration",
             TextCause::BatchOpen => b"BatchOpen",
             TextCause::EmptyBatch => b"EmptyBatch",
             TextCause::AfterDecouple => b"AfterDecouple",

@@ -1,15 +1,16 @@
 //! What the lines of a network text add to the network.
-ghost use Rattle.std.specs.Prelude.{◌≡◌, ◌<◌, ◌≤◌, ◌∷◌, [], neg_ℤ, false, length};
+ghost use Rattle.std.specs.Prelude.{◌≡◌, ◌<◌, ◌∷◌, [], neg_ℤ, false, length, Ok};
 ghost use Rattle.stn_model.specs.Net.{point_count};
-ghost use Rattle.net_text.specs.Networks.{add_agent, add_point, add_bound, add_arc, is_beyond, with_arcs, arc_between};
-ghost use Rattle.net_text.specs.declared.stage.Step.TheVariants.{Goes};
-ghost use Rattle.net_text.specs.declared.stage.Stage.TheVariants.{Building};
+ghost use Rattle.stn_model.specs.Refusals.{is_beyond};
+ghost use Rattle.net_text.specs.Networks.{add_agent, add_point, add_act, add_bound, add_arc, with_arcs, arc_between};
 ghost use Rattle.net_text.specs.Adding.{Adds};
 
+use crate::arcs::{counted_arcs, is_beyond};
 use crate::cause::TextCause;
 use crate::refusal::{Refusal, refused};
+use crate::version::{Version, is_full_in};
 use std::alloc::Global;
-use stn_model::{AgentId, GREATEST_BOUND, Lean, MOST_ARCS, Network, PointId};
+use stn_model::{AgentId, Lean, MOST_ARCS, Network, PointId};
 
 /// Adds an agent.
 pub fn add_agent(alloc: Global, net: &mut Network, name: &[u8], lean: Lean) -> Result<(), Refusal>
@@ -21,17 +22,40 @@ pub fn add_agent(alloc: Global, net: &mut Network, name: &[u8], lean: Lean) -> R
     Ok(())
 }
 
-/// Adds a point of an agent.
+/// Adds a point of an agent. Each version of a text has its own limit of points; after a refusal the network serves no more.
 pub fn add_point(
     alloc: Global,
+    version: Version,
     net: &mut Network,
     agent: AgentId,
     name: &[u8],
 ) -> Result<(), Refusal>
     requires { agent.0 < length net.old.agents }
-    ensures { Adds (add_point net.old agent.0 name.now) result net.new }
+    ensures { Adds (add_point version net.old agent.0 name.now) result net.new }
 {
+    let full = is_full_in(version, net);
     if let Err(error) = net.add_point(alloc, agent, name) {
+        return Err(refused(error));
+    }
+    if full {
+        return Err(Refusal::Fails(TextCause::TooManyPoints));
+    }
+    Ok(())
+}
+
+/// Adds an act of an agent.
+pub fn add_act(
+    alloc: Global,
+    net: &mut Network,
+    agent: AgentId,
+    name: &[u8],
+    low: i64,
+    high: i64,
+) -> Result<(), Refusal>
+    requires { agent.0 < length net.old.agents }
+    ensures { Adds (add_act net.old agent.0 name.now low high) result net.new }
+{
+    if let Err(error) = net.add_act(alloc, agent, name, low, high) {
         return Err(refused(error));
     }
     Ok(())
@@ -67,7 +91,7 @@ pub fn add_bound(
     if is_beyond(high) || is_beyond(low) {
         return Err(Refusal::Fails(TextCause::BoundRange));
     }
-    if given_arcs(net) + 2 > MOST_ARCS {
+    if counted_arcs(net) + 2 > MOST_ARCS {
         return Err(Refusal::Fails(TextCause::TooManyArcs));
     }
     add_both(net, from, to, low, high)
@@ -84,7 +108,7 @@ fn add_both(
     requires from_in { from.0 < point_count net.old }
     requires to_in { to.0 < point_count net.old }
     requires range { is_beyond low ≡ false }
-    ensures { Adds (Goes (Building (with_arcs net.old (arc_between from.0 to.0 high ∷ arc_between to.0 from.0 (neg_ℤ low) ∷ [])))) result net.new }
+    ensures { Adds (Ok (with_arcs net.old (arc_between from.0 to.0 high ∷ arc_between to.0 from.0 (neg_ℤ low) ∷ []))) result net.new }
 {
     let Ok(_) = net.add_arc(from, to, high) else {
         return Err(Refusal::OutOfMemory);
@@ -93,19 +117,4 @@ fn add_both(
         return Err(Refusal::OutOfMemory);
     };
     Ok(())
-}
-
-/// Whether the bound has magnitude above 2^40.
-fn is_beyond(bound: i64) -> bool
-    ensures { result ≡ is_beyond bound }
-{
-    bound < -GREATEST_BOUND || bound > GREATEST_BOUND
-}
-
-/// How many arcs were given.
-fn given_arcs(net: &Network) -> u32
-    ensures count { result ≡ length net.now.given }
-    ensures few { result ≤ 65536 }
-{
-    net.arcs() - 2 * (net.points() - 1)
 }

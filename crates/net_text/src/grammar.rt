@@ -1,28 +1,28 @@
 //! What the lines of a network text do, by the fields after their word.
 ghost use Rattle.std.specs.Prelude.{◌≡◌, ◌∷◌, true, map, length, IfOk};
-ghost use Rattle.net_text.specs.Networks.{add_line, header, first_line, counts, line_after, fields_do, line_does};
-ghost use Rattle.net_text.specs.Adding.{Adds, Finishes};
-ghost use Rattle.net_text.specs.declared.stage.Stage.TheVariants.{Start, Headed, Building};
-ghost use Rattle.net_text.specs.Words.{word_of};
+ghost use Rattle.net_text.specs.Networks.{read_horizon, read_agent, read_point, read_act, read_bound, read_arc, read_header, counts, header_line, headed, opening_line, network_line, line_in_network, fields_do, line_does, building};
+ghost use Rattle.net_text.specs.Adding.{Adds, Finishes, Takes, TakesIn};
+ghost use Rattle.net_text.specs.Versions.{word_in};
 
 use crate::cause::TextCause;
-use crate::entries::{add_agent, add_arc, add_bound, add_point};
-use crate::fields::fields_of;
+use crate::entries::{add_act, add_agent, add_arc, add_bound, add_point};
+use crate::fields::first_fields;
 use crate::given::{given_agent, given_lean, given_number, given_point};
 use crate::lines::{is_skipped, is_text};
 use crate::numbers::number_of;
 use crate::refusal::Refusal;
-use crate::stage::{Stage, Step};
-use crate::words::{Word, word_of};
+use crate::stage::{Next, Stage};
+use crate::version::{Version, version_of, word_in};
+use crate::words::Word;
 use std::alloc::Global;
 use stn_model::{Lean, Network, OutOfMemory};
 
 /// One field more than the longest line has.
 const MOST_FIELDS: usize = 6;
 
-/// A line that adds an agent.
+/// A line that adds an agent. It leans early where the line says nothing of it.
 fn agent_line(alloc: Global, net: &mut Network, fields: &[&[u8]]) -> Result<(), Refusal>
-    ensures { Adds (add_line net.old Word.Agent (map (λ f. f.now) fields.now)) result net.new }
+    ensures { Adds (read_agent net.old (map (λ f. f.now) fields.now)) result net.new }
 {
     match fields {
         [name] => add_agent(alloc, net, name, Lean::Early),
@@ -35,19 +35,37 @@ fn agent_line(alloc: Global, net: &mut Network, fields: &[&[u8]]) -> Result<(), 
 }
 
 /// A line that adds a point.
-fn point_line(alloc: Global, net: &mut Network, fields: &[&[u8]]) -> Result<(), Refusal>
-    ensures { Adds (add_line net.old Word.Point (map (λ f. f.now) fields.now)) result net.new }
+fn point_line(
+    alloc: Global,
+    version: Version,
+    net: &mut Network,
+    fields: &[&[u8]],
+) -> Result<(), Refusal>
+    ensures { Adds (read_point version net.old (map (λ f. f.now) fields.now)) result net.new }
 {
     let [agent, name] = fields else {
         return Err(Refusal::Fails(TextCause::FieldCount));
     };
     let agent = given_agent(net, agent)?;
-    add_point(alloc, net, agent, name)
+    add_point(alloc, version, net, agent, name)
+}
+
+/// A line that adds an act.
+fn act_line(alloc: Global, net: &mut Network, fields: &[&[u8]]) -> Result<(), Refusal>
+    ensures { Adds (read_act net.old (map (λ f. f.now) fields.now)) result net.new }
+{
+    let [agent, name, low, high] = fields else {
+        return Err(Refusal::Fails(TextCause::FieldCount));
+    };
+    let low = given_number(low)?;
+    let high = given_number(high)?;
+    let agent = given_agent(net, agent)?;
+    add_act(alloc, net, agent, name, low, high)
 }
 
 /// A line that adds an arc and the arc back.
 fn bound_line(net: &mut Network, fields: &[&[u8]]) -> Result<(), Refusal>
-    ensures { Adds (add_line net.old Word.Bound (map (λ f. f.now) fields.now)) result net.new }
+    ensures { Adds (read_bound net.old (map (λ f. f.now) fields.now)) result net.new }
 {
     let [from, to, low, high] = fields else {
         return Err(Refusal::Fails(TextCause::FieldCount));
@@ -61,7 +79,7 @@ fn bound_line(net: &mut Network, fields: &[&[u8]]) -> Result<(), Refusal>
 
 /// A line that adds an arc.
 fn arc_line(net: &mut Network, fields: &[&[u8]]) -> Result<(), Refusal>
-    ensures { Adds (add_line net.old Word.Arc (map (λ f. f.now) fields.now)) result net.new }
+    ensures { Adds (read_arc net.old (map (λ f. f.now) fields.now)) result net.new }
 {
     let [from, to, bound] = fields else {
         return Err(Refusal::Fails(TextCause::FieldCount));
@@ -72,110 +90,130 @@ fn arc_line(net: &mut Network, fields: &[&[u8]]) -> Result<(), Refusal>
     add_arc(net, from, to, bound)
 }
 
-/// The step of a line that left this network, or was refused.
-fn finish(net: Network, added: Result<(), Refusal>) -> Result<Step, OutOfMemory>
-    ensures { IfOk result (λ step. Finishes added net step) }
+/// What comes of a line that added something, or was refused.
+fn finish(added: Result<(), Refusal>) -> Result<Next, OutOfMemory>
+    ensures { IfOk result (λ next. Finishes added next) }
 {
     match added {
-        Ok(()) => Ok(Step::Goes(Stage::Building(net))),
-        Err(Refusal::Fails(cause)) => Ok(Step::Fails(cause)),
+        Ok(()) => Ok(Next::Goes),
+        Err(Refusal::Fails(cause)) => Ok(Next::Fails(cause)),
         Err(Refusal::OutOfMemory) => Err(OutOfMemory),
     }
 }
 
-/// A line after the horizon.
-fn after_horizon(
-    alloc: Global,
-    net: Network,
-    first: &[u8],
-    fields: &[&[u8]],
-) -> Result<Step, OutOfMemory>
-    ensures { IfOk result (λ step. step ≡ line_after (Building net) (word_of first.now) (map (λ f. f.now) fields.now)) }
-{
-    let Some(word) = word_of(first) else {
-        return Ok(Step::Fails(TextCause::UnknownWord));
-    };
-    if !counts(word, fields.len()) {
-        return Ok(Step::Fails(TextCause::FieldCount));
-    }
-    word_line(alloc, net, word, fields)
-}
-
-/// A line after the horizon, by its word.
+/// A line of a network whose horizon is read, by its word. The fields after it are as many as it asks for.
 fn word_line(
     alloc: Global,
-    mut net: Network,
+    version: Version,
+    net: &mut Network,
     word: Word,
     fields: &[&[u8]],
-) -> Result<Step, OutOfMemory>
-    requires { counts word (length fields.now) ≡ true }
-    ensures { IfOk result (λ step. step ≡ add_line net word (map (λ f. f.now) fields.now)) }
+) -> Result<Next, OutOfMemory>
+    ensures { IfOk result (λ next. TakesIn version next net.new (line_in_network version net.old word (map (λ f. f.now) fields.now))) }
 {
     match word {
-        Word::Horizon => Ok(Step::Fails(TextCause::SecondHorizon)),
+        Word::Horizon => Ok(Next::Fails(TextCause::SecondHorizon)),
         Word::Agent => {
-            let added = agent_line(alloc, &mut net, fields);
-            finish(net, added)
+            let added = agent_line(alloc, net, fields);
+            finish(added)
         }
         Word::Point => {
-            let added = point_line(alloc, &mut net, fields);
-            finish(net, added)
+            let added = point_line(alloc, version, net, fields);
+            finish(added)
+        }
+        Word::Act => {
+            let added = act_line(alloc, net, fields);
+            finish(added)
         }
         Word::Bound => {
-            let added = bound_line(&mut net, fields);
-            finish(net, added)
+            let added = bound_line(net, fields);
+            finish(added)
         }
         Word::Arc => {
-            let added = arc_line(&mut net, fields);
-            finish(net, added)
+            let added = arc_line(net, fields);
+            finish(added)
         }
-        Word::End => Ok(Step::Ends(net)),
+        Word::End => Ok(Next::Ends),
     }
 }
 
-/// A line between the header and the horizon.
-fn after_header(alloc: Global, first: &[u8], fields: &[&[u8]]) -> Step
-    ensures { result ≡ line_after Headed (word_of first.now) (map (λ f. f.now) fields.now) }
+/// A line of a network whose horizon is read, by its first field and the others.
+fn network_line(
+    alloc: Global,
+    version: Version,
+    net: &mut Network,
+    first: &[u8],
+    fields: &[&[u8]],
+) -> Result<Next, OutOfMemory>
+    ensures { IfOk result (λ next. TakesIn version next net.new (network_line version net.old (word_in version first.now) (map (λ f. f.now) fields.now))) }
 {
-    let Some(word) = word_of(first) else {
-        return Step::Fails(TextCause::UnknownWord);
+    let Some(word) = word_in(version, first) else {
+        return Ok(Next::Fails(TextCause::UnknownWord));
     };
     if !counts(word, fields.len()) {
-        return Step::Fails(TextCause::FieldCount);
+        return Ok(Next::Fails(TextCause::FieldCount));
+    }
+    word_line(alloc, version, net, word, fields)
+}
+
+/// The network of a line between the header and the horizon, by its first field and the others.
+fn opening_line(
+    alloc: Global,
+    version: Version,
+    first: &[u8],
+    fields: &[&[u8]],
+) -> Result<Network, TextCause>
+    ensures { result ≡ opening_line (word_in version first.now) (map (λ f. f.now) fields.now) }
+{
+    let Some(word) = word_in(version, first) else {
+        return Err(TextCause::UnknownWord);
+    };
+    if !counts(word, fields.len()) {
+        return Err(TextCause::FieldCount);
     }
     match word {
         Word::Horizon => horizon_line(alloc, fields),
-        _ => Step::Fails(TextCause::NoHorizon),
+        _ => Err(TextCause::NoHorizon),
     }
 }
 
-/// The horizon line.
-fn horizon_line(alloc: Global, fields: &[&[u8]]) -> Step
-    ensures { result ≡ first_line Word.Horizon (map (λ f. f.now) fields.now) }
+/// The network of the horizon line.
+fn horizon_line(alloc: Global, fields: &[&[u8]]) -> Result<Network, TextCause>
+    ensures { result ≡ read_horizon (map (λ f. f.now) fields.now) }
 {
     let [horizon] = fields else {
-        return Step::Fails(TextCause::NoHorizon);
+        return Err(TextCause::FieldCount);
     };
     let Some(horizon) = number_of(horizon) else {
-        return Step::Fails(TextCause::NumberBad);
+        return Err(TextCause::NumberBad);
     };
     let Ok(net) = Network::new(alloc, horizon) else {
-        return Step::Fails(TextCause::HorizonRange);
+        return Err(TextCause::HorizonRange);
     };
-    Step::Goes(Stage::Building(net))
+    Ok(net)
 }
 
-/// The header, after its first field.
-fn header(fields: &[&[u8]]) -> Step
-    ensures { result ≡ header (map (λ f. f.now) fields.now) }
+/// The version of a header, by the fields after its first.
+fn header(fields: &[&[u8]]) -> Result<Version, TextCause>
+    ensures { result ≡ read_header (map (λ f. f.now) fields.now) }
 {
     let [version] = fields else {
-        return Step::Fails(TextCause::FieldCount);
+        return Err(TextCause::FieldCount);
     };
-    if *version == b"1".as_slice() {
-        return Step::Goes(Stage::Headed);
+    let Some(version) = version_of(version) else {
+        return Err(TextCause::Version);
+    };
+    Ok(version)
+}
+
+/// The version that the first line names, by its first field and the others.
+fn header_line(first: &[u8], fields: &[&[u8]]) -> Result<Version, TextCause>
+    ensures { result ≡ header_line first.now (map (λ f. f.now) fields.now) }
+{
+    if first == b"mastn".as_slice() {
+        return header(fields);
     }
-    Step::Fails(TextCause::Version)
+    Err(TextCause::NoHeader)
 }
 
 /// Whether so many fields stand after the word.
@@ -186,47 +224,74 @@ fn counts(word: Word, fields: usize) -> bool
         Word::Horizon => fields == 1,
         Word::Agent => fields == 1 || fields == 2,
         Word::Point => fields == 2,
+        Word::Act => fields == 4,
         Word::Bound => fields == 4,
         Word::Arc => fields == 3,
         Word::End => fields == 0,
     }
 }
 
-/// The first line, by its first field and the others.
-fn start_line(first: &[u8], fields: &[&[u8]]) -> Step
-    ensures { result ≡ fields_do Start (first.now ∷ map (λ f. f.now) fields.now) }
+/// Takes the first line.
+fn take_header(stage: &mut Stage, first: &[u8], fields: &[&[u8]]) -> Next
+    ensures { Takes result stage.new (headed (header_line first.now (map (λ f. f.now) fields.now))) }
 {
-    if first == b"mastn".as_slice() {
-        return header(fields);
+    match header_line(first, fields) {
+        Ok(version) => {
+            *stage = Stage::Headed(version);
+            Next::Goes
+        }
+        Err(cause) => Next::Fails(cause),
     }
-    Step::Fails(TextCause::NoHeader)
 }
 
-/// A line by its fields.
-fn fields_do(alloc: Global, stage: Stage, fields: &[&[u8]]) -> Result<Step, OutOfMemory>
-    ensures { IfOk result (λ step. step ≡ fields_do stage (map (λ f. f.now) fields.now)) }
+/// Takes a line between the header and the horizon.
+fn take_opening(
+    alloc: Global,
+    version: Version,
+    stage: &mut Stage,
+    first: &[u8],
+    fields: &[&[u8]],
+) -> Next
+    ensures { Takes result stage.new (building version (opening_line (word_in version first.now) (map (λ f. f.now) fields.now))) }
+{
+    match opening_line(alloc, version, first, fields) {
+        Ok(net) => {
+            *stage = Stage::Building(version, net);
+            Next::Goes
+        }
+        Err(cause) => Next::Fails(cause),
+    }
+}
+
+/// Takes a line by its fields.
+fn take_fields(alloc: Global, stage: &mut Stage, fields: &[&[u8]]) -> Result<Next, OutOfMemory>
+    ensures { IfOk result (λ next. Takes next stage.new (fields_do stage.old (map (λ f. f.now) fields.now))) }
 {
     let [first, fields @ ..] = fields else {
-        return Ok(Step::Goes(stage));
+        return Ok(Next::Goes);
     };
     match stage {
-        Stage::Start => Ok(start_line(first, fields)),
-        Stage::Headed => Ok(after_header(alloc, first, fields)),
-        Stage::Building(net) => after_horizon(alloc, net, first, fields),
+        Stage::Building(version, net) => network_line(alloc, *version, net, first, fields),
+        Stage::Headed(version) => {
+            let version = *version;
+            Ok(take_opening(alloc, version, stage, first, fields))
+        }
+        Stage::Start => Ok(take_header(stage, first, fields)),
     }
 }
 
-/// What a line does.
-pub fn line_does(alloc: Global, stage: Stage, line: &[u8]) -> Result<Step, OutOfMemory>
-    ensures { IfOk result (λ step. step ≡ line_does stage line.now) }
+/// Takes a line. After a refusal, and after the end of the text, nothing more may be taken.
+pub fn take_line(alloc: Global, stage: &mut Stage, line: &[u8]) -> Result<Next, OutOfMemory>
+    ensures { IfOk result (λ next. Takes next stage.new (line_does stage.old line.now)) }
 {
     if is_skipped(line) {
-        return Ok(Step::Goes(stage));
+        return Ok(Next::Goes);
     }
     if !is_text(line) {
-        return Ok(Step::Fails(TextCause::NotText));
+        return Ok(Next::Fails(TextCause::NotText));
     }
-    let fields = fields_of(alloc, line, MOST_FIELDS)?;
-    let step = fields_do(alloc, stage, fields.as_slice())?;
-    Ok(step)
+    let mut fields = [b"".as_slice(); MOST_FIELDS];
+    let count = first_fields(line, &mut fields);
+    let next = take_fields(alloc, stage, &fields[..count])?;
+    Ok(next)
 }

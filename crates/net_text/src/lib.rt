@@ -1,6 +1,7 @@
 //! The text of networks: its grammar, its reader and its printer.
 #![tactic(auto)]
 
+pub mod arcs;
 pub mod cause;
 mod entries;
 pub mod fields;
@@ -14,10 +15,11 @@ pub mod read;
 mod refusal;
 pub mod rest;
 pub mod stage;
+pub mod version;
 pub mod words;
 pub mod write;
 
 pub use cause::{TextCause, TextError};
-pub use print::print_net;
+pub use print::{print_net, print_net2};
 pub use read::{NetRead, read_net};
 pub use rest::rest_is_blank;

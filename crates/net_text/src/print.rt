@@ -1,13 +1,16 @@
 //! Printing a network in its plain form.
-ghost use Rattle.std.specs.Prelude.{◌≡◌, ℕ, ◌+◌, ◌-◌, ◌<◌, ◌++◌, ◌∷◌, [], codes, OnOk, OnErr, length, slice_index_or};
+ghost use Rattle.std.specs.Prelude.{◌≡◌, ◌↔◌, ℕ, ◌+◌, ◌-◌, ◌<◌, ◌++◌, ◌∷◌, [], codes, IsTrue, IfOk, OnOk, OnErr, length, slice_index_or};
 ghost use Rattle.std.specs.Fmt.{signed_decimal};
 ghost use Rattle.std.specs.List.{flat_map};
-ghost use Rattle.stn_model.specs.Net.{no_agent, no_place, point_count};
+ghost use Rattle.stn_model.specs.Net.{no_agent, no_place, no_act, point_count};
 ghost use Rattle.stn_model.specs.Valid.{IsNetwork, IsArcWithin};
-ghost use Rattle.net_text.specs.Laws.{IsReadBack};
-ghost use Rattle.net_text.specs.Plain.{line, agent_line, point_line, arc_line, plain_form, HasFront};
+ghost use Rattle.net_text.specs.Laws.{IsReadBack, IsReadBackIn};
+ghost use Rattle.net_text.specs.Plain.{line, agent_line, point_line, act_line, place_lines, places_left, StartsAt, arc_line, plain_text, plain_form, plain_form2, HasFront};
+ghost use Rattle.net_text.specs.Versions.{version_word};
 ghost use Rattle.net_text.specs.Words.{lean_word};
 
+use crate::arcs::fixed_arcs;
+use crate::version::{Version, least_version};
 use crate::write::add_line;
 use itoa::Buffer;
 use std::vec::Vec;
@@ -16,7 +19,9 @@ use stn_model::{AgentId, Constraint, Lean, Network, OutOfMemory, PointId};
 /// Room for a line, in bytes: most lines are shorter.
 const LINE_ROOM: usize = 24;
 
-/// Appends the plain form of a network: the header, the horizon, each agent with its lean, each point, each given arc, and `end`. That form, with anything after it, is read as an equal network.
+/// Appends the plain form of a network: the header, the horizon, each agent with its lean, each point and each act (in place of its two
+/// points), each given arc, and `end`. The header is `mastn 1` exactly where there is no act and there are at most 4,096 points, and else
+/// `mastn 2`. That form, with anything after it, is read as an equal network.
 ///
 /// # Errors
 /// `OutOfMemory` where the vector cannot grow. Then its bytes are those from before.
@@ -25,8 +30,30 @@ pub fn print_net(net: &Network, out: &mut Vec<u8>) -> Result<(), OutOfMemory>
     ensures read_back { IsReadBack net.now }
     ensures err { OnErr result (out.new.items ≡ out.old.items) }
 {
+    let version = least_version(net);
+    print_in(version, net, out)
+}
+
+/// Appends the plain form of a network with the header `mastn 2`. That form, with anything after it, is read as an equal network.
+///
+/// # Errors
+/// `OutOfMemory` where the vector cannot grow. Then its bytes are those from before.
+pub fn print_net2(net: &Network, out: &mut Vec<u8>) -> Result<(), OutOfMemory>
+    ensures ok { OnOk result (out.new.items ≡ out.old.items ++ plain_form2 net.now) }
+    ensures read_back { IsReadBackIn Version.Two net.now }
+    ensures err { OnErr result (out.new.items ≡ out.old.items) }
+{
+    print_in(Version::Two, net, out)
+}
+
+/// Appends the plain form of a network with the header of that version. After an `Err` the bytes are those from before.
+fn print_in(version: Version, net: &Network, out: &mut Vec<u8>) -> Result<(), OutOfMemory>
+    ensures valid { IsNetwork net.now }
+    ensures ok { OnOk result (out.new.items ≡ out.old.items ++ plain_text version net.now) }
+    ensures err { OnErr result (out.new.items ≡ out.old.items) }
+{
     let mark = out.len();
-    let Ok(()) = add_net(net, out) else {
+    let Ok(()) = add_net(version, net, out) else {
         out.truncate(mark);
         return Err(OutOfMemory);
     };
@@ -34,19 +61,30 @@ pub fn print_net(net: &Network, out: &mut Vec<u8>) -> Result<(), OutOfMemory>
 }
 
 /// Appends the plain form. After an `Err` a part of it may stand there.
-fn add_net(net: &Network, out: &mut Vec<u8>) -> Result<(), OutOfMemory>
+fn add_net(version: Version, net: &Network, out: &mut Vec<u8>) -> Result<(), OutOfMemory>
     ensures valid { IsNetwork net.now }
-    ensures ok { OnOk result (out.new.items ≡ out.old.items ++ plain_form net.now) }
+    ensures ok { OnOk result (out.new.items ≡ out.old.items ++ plain_text version net.now) }
     ensures err { OnErr result (HasFront out.old.items out.new.items) }
 {
     out.reserve(LINE_ROOM * (net.agents() + net.arcs()) as usize)?;
-    add_line(out, b"mastn", &[b"1"])?;
+    add_header(version, out)?;
     add_horizon(net.horizon(), out)?;
     add_agents(net, out)?;
-    add_points(net, out)?;
+    add_places(net, out)?;
     add_arcs(net, out)?;
     add_line(out, b"end", &[])?;
     Ok(())
+}
+
+/// Appends the header of a version.
+fn add_header(version: Version, out: &mut Vec<u8>) -> Result<(), OutOfMemory>
+    ensures ok { OnOk result (out.new.items ≡ out.old.items ++ line (codes "mastn") (version_word version ∷ [])) }
+    ensures err { OnErr result (HasFront out.old.items out.new.items) }
+{
+    match version {
+        Version::One => add_line(out, b"mastn", &[b"1"]),
+        Version::Two => add_line(out, b"mastn", &[b"2"]),
+    }
 }
 
 /// Appends the line of a horizon.
@@ -83,14 +121,89 @@ fn add_agent(net: &Network, agent: AgentId, out: &mut Vec<u8>) -> Result<(), Out
     Ok(())
 }
 
-/// Appends a line for each point but the reference point.
-fn add_points(net: &Network, out: &mut Vec<u8>) -> Result<(), OutOfMemory>
-    ensures ok { OnOk result (out.new.items ≡ out.old.items ++ flat_map (point_line net.now) net.now.places) }
+/// The next point whose line is to be written, and the next act.
+#[derive(Clone, Copy)]
+struct Place {
+    point: u32,
+    act: u32,
+}
+
+/// Appends a line for each point but the reference point, and for each act in place of its two points.
+fn add_places(net: &Network, out: &mut Vec<u8>) -> Result<(), OutOfMemory>
+    ensures ok { OnOk result (out.new.items ≡ out.old.items ++ place_lines net.now 1 net.now.places net.now.acts) }
     ensures err { OnErr result (HasFront out.old.items out.new.items) }
 {
-    for place in 0..net.points() - 1 {
-        add_point(net, PointId(place + 1), out)?;
+    let mut place = Place { point: 1, act: 0 };
+    while place.point < net.points() {
+        place = add_place(net, place, out)?;
     }
+    Ok(())
+}
+
+/// Appends the next line of a point or an act, and gives the place after it.
+fn add_place(net: &Network, place: Place, out: &mut Vec<u8>) -> Result<Place, OutOfMemory>
+    requires not_z { 0 < place.point }
+    requires in_net { place.point < point_count net.now }
+    requires valid { IsNetwork net.now }
+    ensures moves { IfOk result (λ next. place.point < next.point) }
+    ensures ok { IfOk result (λ next. out.new.items ++ places_left net.now next.point next.act ≡ out.old.items ++ places_left net.now place.point place.act) }
+    ensures kept { HasFront out.old.items out.new.items }
+{
+    if starts_here(net, place) {
+        add_act(net, place, out)?;
+        return Ok(Place {
+            point: place.point + 2,
+            act: place.act + 1,
+        });
+    }
+    add_point(net, PointId(place.point), out)?;
+    Ok(Place {
+        point: place.point + 1,
+        act: place.act,
+    })
+}
+
+/// Whether the next act starts at the next point.
+fn starts_here(net: &Network, place: Place) -> bool
+    ensures { IsTrue result ↔ StartsAt net.now.acts place.act place.point }
+{
+    place.act < net.acts() && net.act(place.act).start.0 == place.point
+}
+
+/// Appends the line of the next act, which starts at the next point.
+fn add_act(net: &Network, place: Place, out: &mut Vec<u8>) -> Result<(), OutOfMemory>
+    requires starts { StartsAt net.now.acts place.act place.point }
+    requires valid { IsNetwork net.now }
+    ensures there { place.point + 1 < point_count net.now }
+    ensures ok { OnOk result (out.new.items ≡ out.old.items ++ act_line net.now (slice_index_or net.now.places (place.point - 1) no_place) (slice_index_or net.now.acts place.act no_act)) }
+    ensures err { OnErr result (HasFront out.old.items out.new.items) }
+{
+    let act = net.act(place.act);
+    let Some(owner) = net.owner(act.start) else {
+        unreachable!();
+    };
+    let start = net.point_name(act.start);
+    let name = &start[..start.len() - 2];
+    add_act_fields(net.agent_name(owner), name, act.low, act.high, out)?;
+    Ok(())
+}
+
+/// Appends the line of an act, by its fields.
+fn add_act_fields(
+    agent: &[u8],
+    name: &[u8],
+    low: i64,
+    high: i64,
+    out: &mut Vec<u8>,
+) -> Result<(), OutOfMemory>
+    ensures ok { OnOk result (out.new.items ≡ out.old.items ++ line (codes "act") (agent.now ∷ name.now ∷ signed_decimal low ∷ signed_decimal high ∷ [])) }
+    ensures err { OnErr result (HasFront out.old.items out.new.items) }
+{
+    let mut low_digits = Buffer::new();
+    let low = low_digits.format(low).as_bytes();
+    let mut high_digits = Buffer::new();
+    let high = high_digits.format(high).as_bytes();
+    add_line(out, b"act", &[agent, name, low, high])?;
     Ok(())
 }
 
@@ -118,7 +231,7 @@ fn add_arcs(net: &Network, out: &mut Vec<u8>) -> Result<(), OutOfMemory>
     ensures ok { OnOk result (out.new.items ≡ out.old.items ++ flat_map (arc_line net.now) net.now.given) }
     ensures err { OnErr result (HasFront out.old.items out.new.items) }
 {
-    let first = 2 * (net.points() - 1);
+    let first = fixed_arcs(net);
     for given in 0..net.arcs() - first {
         add_arc(net, net.arc(first + given), out)?;
     }

@@ -1,11 +1,12 @@
 //! Reading a network.
 ghost use Rattle.std.specs.Prelude.{◌≡◌, ◌<◌, ◌≤◌, ◌^◌, IfOk, length};
 ghost use Rattle.net_text.specs.Networks.{text_of, missing, Reads};
+ghost use Rattle.net_text.specs.Laws.{IsPrefixRead};
 
 use crate::cause::{TextCause, TextError};
-use crate::grammar::line_does;
+use crate::grammar::take_line;
 use crate::lines::Lines;
-use crate::stage::{Stage, Step};
+use crate::stage::{Next, Stage};
 use std::alloc::Global;
 use stn_model::Network;
 
@@ -29,23 +30,27 @@ pub fn read_net(alloc: Global, bytes: &[u8]) -> Result<NetRead, TextError>
     requires { length bytes.now < 2 ^ 32 }
     ensures reads { Reads result (text_of bytes.now) }
     ensures within { IfOk result (λ r. (r.used ≤ length bytes.now) × (r.lines ≤ r.used)) }
+    ensures prefix { IfOk result (IsPrefixRead bytes.now) }
 {
     let mut lines = Lines::new(bytes);
     let mut stage = Stage::Start;
     while let Some(line) = lines.next_line() {
-        let Ok(step) = line_does(alloc, stage, line) else {
+        let Ok(next) = take_line(alloc, &mut stage, line) else {
             return Err(TextError::OutOfMemory);
         };
-        match step {
-            Step::Goes(next) => stage = next,
-            Step::Ends(net) => {
+        match next {
+            Next::Goes => {}
+            Next::Ends => {
+                let Stage::Building(_, net) = stage else {
+                    unreachable!();
+                };
                 return Ok(NetRead {
                     net,
                     used: lines.used,
                     lines: lines.count,
                 });
             }
-            Step::Fails(cause) => {
+            Next::Fails(cause) => {
                 return Err(TextError::At {
                     line: lines.count,
                     cause,
@@ -66,8 +71,8 @@ fn missing(stage: &Stage) -> TextCause
 {
     match stage {
         Stage::Start => TextCause::NoHeader,
-        Stage::Headed => TextCause::NoEnd,
-        Stage::Building(_) => TextCause::NoEnd,
+        Stage::Headed(_) => TextCause::NoEnd,
+        Stage::Building(_, _) => TextCause::NoEnd,
     }
 }
 

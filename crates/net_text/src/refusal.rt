@@ -28,6 +28,7 @@ pub fn refused(error: NetError) -> Refusal
         NetError::BoundRange => Refusal::Fails(TextCause::BoundRange),
         NetError::HorizonRange => Refusal::Fails(TextCause::HorizonRange),
         NetError::PointsClosed => Refusal::Fails(TextCause::PointsClosed),
+        NetError::NegativeDuration => Refusal::Fails(TextCause::NegativeDuration),
         NetError::OutOfMemory => Refusal::OutOfMemory,
     }
 }

@@ -1,5 +1,6 @@
-//! How far a text has come, and what its next line does.
+//! How far a text has come, and what comes of its next line.
 use crate::cause::TextCause;
+use crate::version::Version;
 use stn_model::Network;
 
 /// How far a network text has come.
@@ -7,19 +8,19 @@ use stn_model::Network;
 pub enum Stage {
     /// No line was read.
     Start,
-    /// The header was read.
-    Headed,
+    /// The header was read, and named this version.
+    Headed(Version),
     /// The horizon was read, and what followed it is in the network.
-    Building(Network),
+    Building(Version, Network),
 }
 
-/// What a line does.
-#[derive(Drop)]
-pub enum Step {
+/// What comes of a line.
+#[derive(Clone, Copy)]
+pub enum Next {
     /// The text goes on.
-    Goes(Stage),
-    /// The text ends with this network.
-    Ends(Network),
+    Goes,
+    /// The text ends, and its network is whole.
+    Ends,
     /// The line is refused.
     Fails(TextCause),
 }

@@ -13,6 +13,8 @@ pub enum Word {
     Agent,
     /// A point.
     Point,
+    /// An act.
+    Act,
     /// Two arcs, there and back.
     Bound,
     /// One arc.
@@ -33,6 +35,9 @@ pub fn word_of(field: &[u8]) -> Option<Word>
     }
     if field == b"point".as_slice() {
         return Some(Word::Point);
+    }
+    if field == b"act".as_slice() {
+        return Some(Word::Act);
     }
     if field == b"bound".as_slice() {
         return Some(Word::Bound);

@@ -1,12 +1,9 @@
 -- A line that a line feed ends, or the last line.
-use Rattle.std.proofs.Common.{◌≡◌, ℕ, Option, Some, None, refl, sym, ◌∙◌, arith}
+use Rattle.std.proofs.Common.{sym, ◌∙◌, arith}
 use Rattle.std.proofs.lemmas.Bool.Decides.{nat_tests}
+use Rattle.net_text.proofs.FirstFields.{nowhere}
 use Rattle.net_text.proofs.Parts.{fed_line, last_line, no_line}
 use Rattle.net_text.proofs.lines.first_line.Goals as goal
-
-nowhere : (r : Option ℕ) → ((n : ℕ) → r ≡ Some n → ⊥) → r ≡ None
-nowhere None h = refl
-nowhere (Some n) h = absurd (h n refl)
 
 pub returns : goal.returns
 returns c = fed_line c.args.bytes.now c.in-Some.end c.without_return.result.now (sym c.in-Some.ensures) c.without_return.ensures

@@ -24,7 +24,7 @@ loop-given-preserved c =
     c.loop-given.invariant
     (c.in_ok-add_arc.ensures.ok
     ∙ ap (λ (a : Constraint). c.loop-given.out.items ++ arc_line c.args.net.now a)
-    (c.arc.ensures.arc ∙ given_is c.args.net.now (2 * (c.points.result - 1) + c.loop-given.given) c.loop-given.given (omega arith)))
+    (c.arc.ensures.arc ∙ given_is c.args.net.now (c.fixed_arcs-first.result + c.loop-given.given) c.loop-given.given (omega arith)))
 
 pub returns-clause-ok : goal.returns-clause-ok
 returns-clause-ok c =
