@@ -5,7 +5,7 @@ ghost use Rattle.std.specs.Io.{ReadsAtMost, WritesAtMost};
 ghost use Rattle.std.specs.Io.KnownBytes.{ReadConsumes, WriteAppends};
 ghost use Rattle.stn_io.specs.Bytes.{TakesSome};
 ghost use Rattle.stn_io.specs.Causes.{HasCause, one_more};
-ghost use Rattle.stn_io.specs.Memory.{given_count, after_read, after_failed_read, taken_count, after_write, after_failed_write};
+ghost use Rattle.stn_io.specs.Memory.{source_state, sink_state, given_count, after_read, after_failed_read, taken_count, after_write, after_failed_write};
 
 use crate::traits::{Failed, Sink, Source};
 use std::marker::Model;
@@ -26,9 +26,9 @@ pub struct MemSource {
 
 impl Model for MemSource {
     ghost use Rattle.std.specs.Prelude.{◌≡◌, ◌≤◌, ◌<◌, [], drop, vec_len};
-    ghost use Rattle.stn_io.specs.Memory.{SourceState};
+    ghost use Rattle.stn_io.specs.Memory.{MemSourceState};
 
-    ghost Value = { SourceState };
+    ghost Value = { MemSourceState };
 
     ghost view = { λ s. record { left = drop s.at s.bytes.items; piece = s.piece; failing = s.failing.items; calls = s.calls; faults = s.faults } };
 
@@ -54,9 +54,7 @@ impl MemSource {
 }
 
 impl Source for MemSource {
-    ghost left = { λ s. Some s.left };
-
-    ghost faults = { λ s. s.faults };
+    ghost state = { source_state };
 
     /// Gives the least of the piece, the length of `out` and the bytes left.
     ///
@@ -106,9 +104,9 @@ pub struct MemSink {
 
 impl Model for MemSink {
     ghost use Rattle.std.specs.Prelude.{◌-◌, ◌≤◌, ◌<◌, take, vec_len};
-    ghost use Rattle.stn_io.specs.Memory.{SinkState};
+    ghost use Rattle.stn_io.specs.Memory.{MemSinkState};
 
-    ghost Value = { SinkState };
+    ghost Value = { MemSinkState };
 
     ghost view = { λ s. record { taken = take s.at s.room.items; room = vec_len s.room - s.at; piece = s.piece; failing = s.failing.items; calls = s.calls; faults = s.faults } };
 
@@ -141,9 +139,7 @@ impl MemSink {
 }
 
 impl Sink for MemSink {
-    ghost taken = { λ s. Some s.taken };
-
-    ghost faults = { λ s. s.faults };
+    ghost state = { sink_state };
 
     /// Takes the least of the piece, the length of `bytes` and the room left.
     ///

@@ -21,17 +21,14 @@ pub struct StdSource<R: Read> {
 impl<R: Read> StdSource<R> {
     /// A source over this reader, of which no call has failed.
     pub fn new(reader: R) -> Self
-        ensures left { ⟦<StdSource<R> as Source>⟧.left result ≡ R.remaining reader }
-        ensures faults { ⟦<StdSource<R> as Source>⟧.faults result ≡ 0 }
+        ensures { ⟦<StdSource<R> as Source>⟧.state result ≡ record { left = R.remaining reader; faults = 0 } }
     {
         StdSource { reader, faults: 0 }
     }
 }
 
 impl<R: Read> Source for StdSource<R> {
-    ghost left = { λ s. R.remaining s.reader };
-
-    ghost faults = { λ s. s.faults };
+    ghost state = { λ s. record { left = R.remaining s.reader; faults = s.faults } };
 
     /// Passes one call on to the reader, for at most 8,192 bytes.
     ///
@@ -40,10 +37,10 @@ impl<R: Read> Source for StdSource<R> {
     /// `Failed` at each error of the reader. The count is then one more, and else as before.
     fn read(&mut self, out: &mut [u8]) -> Result<usize, Failed>
         ensures bound { ReadsAtMost result out.new }
-        ensures bytes { ReadConsumes (⟦<StdSource<R> as Source>⟧.left self.old) (⟦<StdSource<R> as Source>⟧.left self.new) result out.new }
+        ensures bytes { ReadConsumes (⟦<StdSource<R> as Source>⟧.state self.old).left (⟦<StdSource<R> as Source>⟧.state self.new).left result out.new }
         ensures untouched { OnErr result (out.new ≡ out.old) }
-        ensures cause { HasCause (⟦<StdSource<R> as Source>⟧.faults self.old) (⟦<StdSource<R> as Source>⟧.faults self.new) result }
-        ensures counted { OnErr result (⟦<StdSource<R> as Source>⟧.faults self.new ≡ one_more (⟦<StdSource<R> as Source>⟧.faults self.old)) }
+        ensures cause { HasCause (⟦<StdSource<R> as Source>⟧.state self.old).faults (⟦<StdSource<R> as Source>⟧.state self.new).faults result }
+        ensures counted { OnErr result ((⟦<StdSource<R> as Source>⟧.state self.new).faults ≡ one_more (⟦<StdSource<R> as Source>⟧.state self.old).faults) }
     {
         // A reader may leave anything in its buffer where it fails, so `out` is not lent to it.
         let mut piece = [0; PIECE];
@@ -71,17 +68,14 @@ pub struct StdSink<W: Write> {
 impl<W: Write> StdSink<W> {
     /// A sink over this writer, of which no call has failed.
     pub fn new(writer: W) -> Self
-        ensures taken { ⟦<StdSink<W> as Sink>⟧.taken result ≡ W.contents writer }
-        ensures faults { ⟦<StdSink<W> as Sink>⟧.faults result ≡ 0 }
+        ensures { ⟦<StdSink<W> as Sink>⟧.state result ≡ record { taken = W.contents writer; faults = 0 } }
     {
         StdSink { writer, faults: 0 }
     }
 }
 
 impl<W: Write> Sink for StdSink<W> {
-    ghost taken = { λ s. W.contents s.writer };
-
-    ghost faults = { λ s. s.faults };
+    ghost state = { λ s. record { taken = W.contents s.writer; faults = s.faults } };
 
     /// Passes one call on to the writer.
     ///
@@ -92,9 +86,9 @@ impl<W: Write> Sink for StdSink<W> {
     fn write(&mut self, bytes: &[u8]) -> Result<usize, Failed>
         ensures bound { WritesAtMost result bytes.now }
         ensures some { TakesSome result bytes.now }
-        ensures bytes { WriteAppends (⟦<StdSink<W> as Sink>⟧.taken self.old) (⟦<StdSink<W> as Sink>⟧.taken self.new) result bytes.now }
-        ensures cause { HasCause (⟦<StdSink<W> as Sink>⟧.faults self.old) (⟦<StdSink<W> as Sink>⟧.faults self.new) result }
-        ensures counted { OnErr result (⟦<StdSink<W> as Sink>⟧.faults self.new ≡ one_more (⟦<StdSink<W> as Sink>⟧.faults self.old)) }
+        ensures bytes { WriteAppends (⟦<StdSink<W> as Sink>⟧.state self.old).taken (⟦<StdSink<W> as Sink>⟧.state self.new).taken result bytes.now }
+        ensures cause { HasCause (⟦<StdSink<W> as Sink>⟧.state self.old).faults (⟦<StdSink<W> as Sink>⟧.state self.new).faults result }
+        ensures counted { OnErr result ((⟦<StdSink<W> as Sink>⟧.state self.new).faults ≡ one_more (⟦<StdSink<W> as Sink>⟧.state self.old).faults) }
     {
         match self.writer.write(bytes) {
             Ok(count) if count > 0 || bytes.is_empty() => Ok(count),

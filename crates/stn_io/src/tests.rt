@@ -6,7 +6,7 @@ use crate::{
     read_all, write_all,
 };
 use std::alloc::{AllocError, Global};
-use std::io::{Error, ErrorKind, Read};
+use std::io::{Error, ErrorKind, Read, Write};
 use std::test::Fail;
 
 const TEXT: &[u8] = b"consistent\ntimes 7\ndone\n";
@@ -27,20 +27,41 @@ fn sink(alloc: Global, room: usize, piece: usize, failing: &[u32]) -> Result<Mem
     Ok(MemSink::new(room, piece, failing))
 }
 
-/// A reader that gives one byte, and then fails.
+/// A reader and writer that fails at the call of one number, and gives and takes one byte at each other.
 #[derive(Drop)]
-struct Breaks {
-    begun: bool,
+struct Stumbles {
+    at: u32,
+    calls: u32,
 }
 
-impl Read for Breaks {
+impl Stumbles {
+    /// Counts a call. Whether it is the one that fails.
+    fn falls(&mut self) -> bool {
+        self.calls = self.calls.saturating_add(1);
+        self.calls == self.at
+    }
+}
+
+impl Read for Stumbles {
     fn read(&mut self, buf: &mut [u8]) -> std::io::Result<usize> {
-        if self.begun || buf.is_empty() {
+        if self.falls() || buf.is_empty() {
             return Err(Error::from(ErrorKind::Other));
         }
-        self.begun = true;
         buf[0] = b'!';
         Ok(1)
+    }
+}
+
+impl Write for Stumbles {
+    fn write(&mut self, buf: &[u8]) -> std::io::Result<usize> {
+        if self.falls() || buf.is_empty() {
+            return Err(Error::from(ErrorKind::Other));
+        }
+        Ok(1)
+    }
+
+    fn flush(&mut self) -> std::io::Result<()> {
+        Ok(())
     }
 }
 
@@ -125,17 +146,47 @@ fn the_readers_and_writers_of_std_are_passed_on(rt: HostRuntime) -> Result<(), F
     let mut sink = StdSink::new(Vec::new(rt.alloc()));
     assert_eq!(rt; write_all(&mut sink, TEXT), Ok(()));
 
-    let mut broken = StdSource::new(Breaks { begun: false });
-    let mut out = [b'.'; 4];
-    assert_eq!(rt; broken.read(&mut out), Ok(1));
-    assert_eq!(rt; broken.read(&mut out), Err(Failed));
-    assert_eq!(rt; out.as_slice(), b"!...".as_slice());
-
     // Two bytes of room: the third is refused by a count of 0.
     let mut room = [0; 2];
     let mut full = StdSink::new(room.as_mut_slice());
     assert_eq!(rt; full.write(b"ab"), Ok(2));
     assert_eq!(rt; full.write(b"c"), Err(Failed));
     assert_eq!(rt; full.write(b""), Ok(0));
+    Ok(())
+}
+
+#[test]
+fn a_failed_call_of_std_is_not_tried_again(rt: HostRuntime) -> Result<(), Fail> {
+    for at in 1..4u32 {
+        let mut source = StdSource::new(Stumbles { at, calls: 0 });
+        let mut sink = StdSink::new(Stumbles { at, calls: 0 });
+        for call in 1..5u32 {
+            let wanted = if call == at { Err(Failed) } else { Ok(1) };
+            let mut out = [b'.'; 4];
+            assert_eq!(rt; source.read(&mut out), wanted, "call {call}, fails at {at}");
+            assert_eq!(rt;
+                out[0] == b'!',
+                wanted.is_ok(),
+                "call {call}, fails at {at}"
+            );
+            assert_eq!(rt; sink.write(b"ab"), wanted, "call {call}, fails at {at}");
+        }
+    }
+    Ok(())
+}
+
+#[test]
+fn no_call_follows_a_fault(rt: HostRuntime) -> Result<(), Fail> {
+    // The second call fails, and of those that follow the next is the third: the fourth fails too.
+    let mut source = source(rt.alloc(), 6, &[2, 4])?;
+    let mut sink = sink(rt.alloc(), 64, 6, &[2, 4])?;
+    let read = read_all(rt.alloc(), &mut source, 100);
+    assert!(rt; matches!(read, Err(ReadRefusal::ReadFault)));
+    assert_eq!(rt; write_all(&mut sink, TEXT), Err(WriteFault));
+    for wanted in [Ok(1), Err(Failed), Ok(1)] {
+        let mut out = [b'.'; 1];
+        assert_eq!(rt; source.read(&mut out), wanted);
+        assert_eq!(rt; sink.write(b"x"), wanted);
+    }
     Ok(())
 }

@@ -39,19 +39,19 @@ pub fn read_all<S: Source>(
     source: &mut S,
     limit: u32,
 ) -> Result<Vec<u8>, ReadRefusal>
-    ensures bytes { IfOk result (λ v. IfSome (S.left source.old) (λ xs. v.items ≡ xs)) }
-    ensures ended { OnOk result (IfSome (S.left source.old) (λ _. S.left source.new ≡ Some [])) }
+    ensures bytes { IfOk result (λ v. IfSome (S.state source.old).left (λ xs. v.items ≡ xs)) }
+    ensures ended { OnOk result (IfSome (S.state source.old).left (λ _. (S.state source.new).left ≡ Some [])) }
     ensures short { IfOk result (λ v. length v.items ≤ limit) }
-    ensures kept { OnOk result (S.faults source.new ≡ S.faults source.old) }
+    ensures kept { OnOk result ((S.state source.new).faults ≡ (S.state source.old).faults) }
 
     // One byte more than the limit was read exactly where the answer is `TooLong`.
-    ensures long { result ≡ Err ReadRefusal.TooLong → Loses (S.left source.old) (S.left source.new) (limit + 1) }
-    ensures longer { OnOk result (IfSome (S.left source.old) (λ xs. length xs ≤ limit)) }
-    ensures fewer { IfErr result (λ e. e ≢ ReadRefusal.TooLong → LosesAtMost (S.left source.old) (S.left source.new) limit) }
+    ensures long { result ≡ Err ReadRefusal.TooLong → Loses (S.state source.old).left (S.state source.new).left (limit + 1) }
+    ensures longer { OnOk result (IfSome (S.state source.old).left (λ xs. length xs ≤ limit)) }
+    ensures fewer { IfErr result (λ e. e ≢ ReadRefusal.TooLong → LosesAtMost (S.state source.old).left (S.state source.new).left limit) }
 
-    ensures fault { result ≡ Err ReadRefusal.ReadFault → Rose (S.faults source.old) (S.faults source.new) }
-    ensures quiet { IfErr result (λ e. e ≢ ReadRefusal.ReadFault → S.faults source.new ≡ S.faults source.old) }
-    ensures later { S.faults source.old ≤ S.faults source.new }
+    ensures fault { result ≡ Err ReadRefusal.ReadFault → Rose (S.state source.old).faults (S.state source.new).faults }
+    ensures quiet { IfErr result (λ e. e ≢ ReadRefusal.ReadFault → (S.state source.new).faults ≡ (S.state source.old).faults) }
+    ensures later { (S.state source.old).faults ≤ (S.state source.new).faults }
 {
     let Ok(mut buffer) = zeros(alloc, PIECE) else {
         return Err(ReadRefusal::OutOfMemory);
@@ -91,11 +91,11 @@ fn zeros(alloc: Global, count: usize) -> Result<Vec<u8>, AllocError>
 /// `WriteFault` only where the sink's count of faults rose; a front of the bytes was then taken, and
 /// not all of them.
 pub fn write_all<K: Sink>(sink: &mut K, bytes: &[u8]) -> Result<(), WriteFault>
-    ensures ok { OnOk result (Appends (K.taken sink.old) (K.taken sink.new) bytes.now) }
-    ensures kept { OnOk result (K.faults sink.new ≡ K.faults sink.old) }
-    ensures front { OnErr result (TakesFront (K.taken sink.old) (K.taken sink.new) bytes.now) }
-    ensures fault { OnErr result (Rose (K.faults sink.old) (K.faults sink.new)) }
-    ensures later { K.faults sink.old ≤ K.faults sink.new }
+    ensures ok { OnOk result (Appends (K.state sink.old).taken (K.state sink.new).taken bytes.now) }
+    ensures kept { OnOk result ((K.state sink.new).faults ≡ (K.state sink.old).faults) }
+    ensures front { OnErr result (TakesFront (K.state sink.old).taken (K.state sink.new).taken bytes.now) }
+    ensures fault { OnErr result (Rose (K.state sink.old).faults (K.state sink.new).faults) }
+    ensures later { (K.state sink.old).faults ≤ (K.state sink.new).faults }
 {
     let mut at = 0;
     while at < bytes.len() {

@@ -5,8 +5,8 @@ use Rattle.stn_io.proofs.whole.read_all.Given as goal
 abbrev pub invariant-pieces : goal.invariant-pieces
 invariant-pieces g l = record {
   short : length l.all.items ≤ l.limit;
-  bytes : Consumes (g.S.Source.left l.initial.source) (g.S.Source.left l.source) l.all.items;
-  kept : g.S.Source.faults l.source ≡ g.S.Source.faults l.initial.source;
+  bytes : Consumes (g.S.Source.state l.initial.source).left (g.S.Source.state l.source).left l.all.items;
+  kept : (g.S.Source.state l.source).faults ≡ (g.S.Source.state l.initial.source).faults;
 }
 
 abbrev pub decreases-pieces : goal.decreases-pieces

@@ -5,8 +5,8 @@ use Rattle.stn_io.proofs.whole.write_all.Given as goal
 abbrev pub invariant-loop-at : goal.invariant-loop-at
 invariant-loop-at g l = record {
   within : l.at ≤ length l.bytes;
-  taken : Appends (g.K.Sink.taken l.initial.sink) (g.K.Sink.taken l.sink) (take l.at l.bytes);
-  kept : g.K.Sink.faults l.sink ≡ g.K.Sink.faults l.initial.sink;
+  taken : Appends (g.K.Sink.state l.initial.sink).taken (g.K.Sink.state l.sink).taken (take l.at l.bytes);
+  kept : (g.K.Sink.state l.sink).faults ≡ (g.K.Sink.state l.initial.sink).faults;
 }
 
 abbrev pub decreases-loop-at : goal.decreases-loop-at
