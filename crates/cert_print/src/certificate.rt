@@ -2,20 +2,21 @@
 ghost use Rattle.std.specs.Prelude.{◌≡◌, ◌+◌, ◌++◌, ◌<◌, ◌∷◌, [], map, codes, OnOk, OnErr};
 ghost use Rattle.std.specs.Fmt.{decimal};
 ghost use Rattle.stn_model.specs.Net.{arcs_of, point_count};
-ghost use Rattle.stn_model.specs.Schedules.{IsConsistent};
+ghost use Rattle.stn_model.specs.Schedules.{Satisfies};
 ghost use Rattle.stn_model.specs.Valid.{IsNetwork};
 ghost use Rattle.stn_model.specs.Walks.{IsNegativeCycle, IsNormal};
 ghost use Rattle.net_text.specs.Plain.{line, HasFront};
+ghost use Rattle.plain_solve.specs.Served.{Serves};
 ghost use Rattle.cert_print.specs.Leads.{WritesSections, Certifies};
 ghost use Rattle.cert_print.specs.Texts.{numbers_text};
 
 use crate::section::add_section;
 use itoa::Buffer;
 use net_text::write::{add_field, add_line};
-use plain_solve::{Plain, plain_from, plain_solve};
+use plain_solve::{Plain, Sources, plain_solve};
 use std::alloc::Global;
 use std::vec::Vec;
-use stn_model::{Network, OutOfMemory, PointId};
+use stn_model::{Network, OutOfMemory, PointId, Schedule};
 
 /// Appends a certificate of a network, which the checker of certificates accepts.
 ///
@@ -41,8 +42,8 @@ fn add_certificate(alloc: Global, net: &Network, out: &mut Vec<u8>) -> Result<()
     ensures err { OnErr result (HasFront out.old.items out.new.items) }
 {
     match plain_solve(alloc, net)? {
-        Plain::Consistent(_) => {
-            add_consistent(alloc, net, out)?;
+        Plain::Consistent(schedule) => {
+            add_consistent(alloc, net, &schedule, out)?;
             Ok(())
         }
         Plain::Inconsistent(walk) => {
@@ -53,14 +54,20 @@ fn add_certificate(alloc: Global, net: &Network, out: &mut Vec<u8>) -> Result<()
 }
 
 /// Appends the certificate of a network that some schedule satisfies.
-fn add_consistent(alloc: Global, net: &Network, out: &mut Vec<u8>) -> Result<(), OutOfMemory>
-    requires { IsConsistent (point_count net.now) (arcs_of net.now) }
+fn add_consistent(
+    alloc: Global,
+    net: &Network,
+    schedule: &Schedule,
+    out: &mut Vec<u8>,
+) -> Result<(), OutOfMemory>
+    requires { Satisfies (point_count net.now) (arcs_of net.now) schedule.now }
     ensures ok { OnOk result (Certifies net.now out.old.items out.new.items) }
     ensures err { OnErr result (HasFront out.old.items out.new.items) }
 {
+    let mut sources = Sources::of(alloc, net, schedule)?;
     add_line(out, b"mastncert", &[b"1"])?;
     add_count(net.points(), out)?;
-    add_sections(alloc, net, out)?;
+    add_sections(alloc, net, &mut sources, out)?;
     add_line(out, b"end", &[])?;
     Ok(())
 }
@@ -77,13 +84,18 @@ fn add_count(points: u32, out: &mut Vec<u8>) -> Result<(), OutOfMemory>
 }
 
 /// Appends a section for each point, in the order of their numbers.
-fn add_sections(alloc: Global, net: &Network, out: &mut Vec<u8>) -> Result<(), OutOfMemory>
-    requires { IsConsistent (point_count net.now) (arcs_of net.now) }
+fn add_sections(
+    alloc: Global,
+    net: &Network,
+    sources: &mut Sources,
+    out: &mut Vec<u8>,
+) -> Result<(), OutOfMemory>
+    requires { Serves net.now sources.old }
     ensures ok { OnOk result (WritesSections net.now 0 (point_count net.now) out.old.items out.new.items) }
     ensures err { OnErr result (HasFront out.old.items out.new.items) }
 {
     for number in 0..net.points() {
-        add_section_from(alloc, net, PointId(number), out)?;
+        add_section_from(alloc, net, sources, PointId(number), out)?;
     }
     Ok(())
 }
@@ -92,18 +104,18 @@ fn add_sections(alloc: Global, net: &Network, out: &mut Vec<u8>) -> Result<(), O
 fn add_section_from(
     alloc: Global,
     net: &Network,
+    sources: &mut Sources,
     source: PointId,
     out: &mut Vec<u8>,
 ) -> Result<(), OutOfMemory>
     requires within { source.0 < point_count net.now }
     requires valid { IsNetwork net.now }
-    requires consistent { IsConsistent (point_count net.now) (arcs_of net.now) }
+    requires serves { Serves net.now sources.old }
+    ensures serves { Serves net.now sources.new }
     ensures ok { OnOk result (WritesSections net.now source.0 (source.0 + 1) out.old.items out.new.items) }
     ensures err { OnErr result (HasFront out.old.items out.new.items) }
 {
-    let Some(walks) = plain_from(alloc, net, source)? else {
-        unreachable!()
-    };
+    let walks = sources.walks_from(alloc, net, source)?;
     add_section(source, &walks, out)?;
     Ok(())
 }

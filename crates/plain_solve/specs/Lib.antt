@@ -5,3 +5,4 @@ pub mod QueueFacts
 pub mod Answers
 pub mod LeastWalks
 pub mod OrderFacts
+pub mod Served

@@ -98,7 +98,7 @@ fn arcs_over_reference(alloc: Global, points: u32, source: u32) -> Result<Vec<u3
 
 /// The labels of the walks over the reference point: no walk to the source, the arc to the reference
 /// point, and the horizon's arc on to each other point.
-fn over_reference(
+pub fn over_reference(
     alloc: Global,
     net: &Network,
     graph: &Graph,
@@ -136,7 +136,7 @@ fn distances_of(alloc: Global, graph: &Graph, labels: &Labels) -> Result<Vec<i12
 }
 
 /// What labels at rest say.
-fn at_rest(
+pub fn at_rest(
     alloc: Global,
     net: &Network,
     graph: &Graph,

@@ -14,14 +14,18 @@
 
 mod graph;
 mod labels;
+mod layout;
 mod least;
+mod nearest;
 mod order;
 mod queue;
 mod relax;
 mod solve;
+mod sources;
 #[cfg(test)]
 mod tests;
 mod trail;
 
 pub use least::{FromPoint, plain_from};
 pub use solve::{Plain, plain_solve};
+pub use sources::Sources;

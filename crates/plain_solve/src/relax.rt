@@ -7,7 +7,8 @@ ghost use Rattle.plain_solve.specs.QueueFacts.{IsLayout, IsQueue, AnswersOutcome
 
 use crate::graph::Graph;
 use crate::labels::{Labels, first_broken, raise};
-use crate::queue::{Layout, Queue, everywhere, lay_out, pass};
+use crate::layout::{Layout, lay_out};
+use crate::queue::{Queue, alone, everywhere, pass};
 use crate::trail::closed_walk;
 use std::alloc::Global;
 use stn_model::OutOfMemory;
@@ -46,7 +47,6 @@ fn seek(
 
 /// A look at every arc. This alone shows that all arcs hold.
 fn rest(
-    alloc: Global,
     graph: &Graph,
     labels: &mut Labels,
     queue: &mut Queue,
@@ -64,9 +64,8 @@ fn rest(
     if let Some(over) = raise(graph, labels, n) {
         return Ok(Some(Outcome::Over(over)));
     }
-    let all = everywhere(alloc, graph)?;
-    queue.current = all.current;
-    queue.queued = all.queued;
+    let point = graph.arc(n).from.0;
+    alone(graph, queue, point)?;
     Ok(None)
 }
 
@@ -87,11 +86,11 @@ fn run_round(
     ensures answer { IfOk result (λ r. MatchOption r (labels.old.raises < labels.new.raises) (AnswersOutcome graph.now labels.new)) }
 {
     let earlier = labels.raises;
-    if let Some(over) = pass(graph, layout, labels, queue)? {
+    if let Some(over) = pass(alloc, graph, layout, labels, queue)? {
         return Ok(Some(Outcome::Over(over)));
     }
     if labels.raises == earlier {
-        let found = rest(alloc, graph, labels, queue)?;
+        let found = rest(graph, labels, queue)?;
         return Ok(found);
     }
     if let Some(walk) = seek(alloc, graph, labels, queue)? {

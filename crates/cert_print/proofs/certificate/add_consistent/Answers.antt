@@ -13,7 +13,7 @@ returns-clause-ok c =
     let o : List ℕ = c.args.out.now.items in
     let sections = c.in_ok-add_sections.ensures.ok in
     let count = c.in_ok-add_count.ensures.ok ∙ ap (λ (n : ℕ). c.add_line.new.out.items ++ line (codes "consistent") (decimal n ∷ [])) c.points.ensures.count in
-    certifies_consistent net c.points.ensures.valid o c.add_line-2.new.out.items sections.walks c.requires sections.are
+    certifies_consistent net c.points.ensures.valid o c.add_line-2.new.out.items sections.walks (c.args.schedule.now, c.requires) sections.are
     (four_joined o c.add_line.new.out.items c.add_count.new.out.items c.add_sections.new.out.items c.add_line-2.new.out.items
     (line (codes "mastncert") (codes "1" ∷ [])) (line (codes "consistent") (decimal (point_count net) ∷ [])) (flat_map section_text sections.walks) (line (codes "end") [])
     c.in_ok-add_line.ensures.ok count sections.whole c.in_ok-add_line-2.ensures.ok)

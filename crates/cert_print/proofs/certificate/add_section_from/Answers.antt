@@ -9,17 +9,17 @@ use Rattle.cert_print.proofs.certificate.add_section_from.Goals as goal
 pub returns-clause-ok : goal.returns-clause-ok
 returns-clause-ok c =
     let net = c.args.net.now in
-    let t = c.in-Some.walks in
-    let source : t.source ≡ c.args.source.0 = rw c.in-Some.is at c.in_ok-walks.ensures.source in
+    let t = c.in_ok-walks.walks in
+    let source : t.source ≡ c.args.source.0 = c.in_ok-walks.ensures.source in
     let within : t.source < point_count net = subst (λ (s : ℕ). s < point_count net) (sym source) c.requires.within in
     let least : AreLeast net t = record {
       within = within;
-      sizes = rw c.in-Some.is at c.in_ok-walks.ensures.sizes;
-      order = subst (λ (s : ℕ). ListsOthersOnce (point_count net) s t.order) (sym source) (rw c.in-Some.is at c.in_ok-walks.ensures.order);
-      ends = rw c.in-Some.is at c.in_ok-walks.ensures.ends;
-      starts = rw c.in-Some.is at c.in_ok-walks.ensures.starts;
-      tight = rw c.in-Some.is at c.in_ok-walks.ensures.tight;
-      least = rw c.in-Some.is at c.in_ok-walks.ensures.least;
+      sizes = c.in_ok-walks.ensures.sizes;
+      order = subst (λ (s : ℕ). ListsOthersOnce (point_count net) s t.order) (sym source) (c.in_ok-walks.ensures.order);
+      ends = c.in_ok-walks.ensures.ends;
+      starts = c.in_ok-walks.ensures.starts;
+      tight = c.in_ok-walks.ensures.tight;
+      least = c.in_ok-walks.ensures.least;
     } in
     record {
       walks = t ∷ [];

@@ -1,0 +1,9 @@
+use Rattle.std.proofs.Common.{◌-◌}
+use Rattle.plain_solve.specs.LabelFacts.{IsForced}
+use Rattle.plain_solve.proofs.nearest.settle.Given as goal
+
+abbrev pub invariant-looks : goal.invariant-looks
+invariant-looks l = IsForced l.graph l.labels
+
+abbrev pub decreases-looks : goal.decreases-looks
+decreases-looks l = 9007199254740992 - l.labels.raises
