@@ -1,7 +1,9 @@
 pub mod Decided
 pub mod Cycles
 pub mod Firsts
-pub mod Fields
+pub mod FieldsTaken
+pub mod FewFields
+pub mod ShortCycles
 pub mod Sections
 pub mod Attained
 pub mod Lines

@@ -203,6 +203,10 @@ abbrev pub is_ended : Stage → Bool
 is_ended (stage.Ended consistent) = true
 is_ended s = false
 
+abbrev pub is_cycle_due : Stage → Bool
+is_cycle_due stage.CycleDue = true
+is_cycle_due s = false
+
 -- a line by its fields, of which it has some
 abbrev pub fields_do : Net → Stage → List (List ℕ) → Result Stage CertCause
 fields_do net s [] = Ok s

@@ -4,3 +4,4 @@ pub mod Cycles
 pub mod Certificates
 pub mod Claims
 pub mod Causes
+pub mod Taken

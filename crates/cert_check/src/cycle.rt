@@ -1,11 +1,12 @@
 //! The line of a negative cycle.
-ghost use Rattle.std.specs.Prelude.{◌≡◌, map, IfOk};
-ghost use Rattle.std.specs.Option.{option_map};
+ghost use Rattle.std.specs.Prelude.{◌≡◌, false, Some, IfOk, MatchOption};
 ghost use Rattle.std.specs.List.{list_all};
 ghost use Rattle.stn_model.specs.Net.{arcs_of};
+ghost use Rattle.net_text.specs.Fields.{fields};
 ghost use Rattle.cert_check.specs.Cycles.{is_normal, is_cycle};
 ghost use Rattle.cert_check.specs.Certificates.{is_index, arc_number, arc_numbers, writes_cycle, cycle_line};
 
+use crate::field::{has_two, take_field};
 use crate::numbers::{index_in, number_below};
 use crate::stage::Stage;
 use crate::verdict::CertCause;
@@ -14,34 +15,36 @@ use std::alloc::Global;
 use stn_model::{Network, OutOfMemory};
 use stn_walk::{Walk, is_negative_cycle};
 
-/// A `cycle` line, by the fields after its word.
+/// A `cycle` line, by what follows its word.
 pub fn cycle_line(
     alloc: Global,
     net: &Network,
-    fields: &[&[u8]],
+    rest: &[u8],
 ) -> Result<Result<Stage, CertCause>, OutOfMemory>
-    ensures { IfOk result (λ step. step ≡ cycle_line net.now (map (λ f. f.now) fields.now)) }
+    ensures { IfOk result (λ step. step ≡ cycle_line net.now (fields rest.now)) }
 {
-    if fields.len() < 2 {
+    if !has_two(rest) {
         return Ok(Err(CertCause::FieldCount));
     }
-    if !are_indexes(fields) {
+    if !are_indexes(rest) {
         return Ok(Err(CertCause::NumberBad));
     }
-    if !writes_cycle(alloc, net, fields)? {
+    if !writes_cycle(alloc, net, rest)? {
         return Ok(Err(CertCause::BadCycle));
     }
     Ok(Ok(Stage::EndDue { consistent: false }))
 }
 
 /// Whether each field writes a number that may stand for a point or an arc.
-fn are_indexes(fields: &[&[u8]]) -> bool
-    ensures { result ≡ list_all is_index (map (λ f. f.now) fields.now) }
+fn are_indexes(line: &[u8]) -> bool
+    ensures { result ≡ list_all is_index (fields line.now) }
 {
-    for field in fields {
-        if !is_index(field) {
+    let mut rest = line;
+    while let Some(field) = take_field(rest) {
+        if !is_index(field.text) {
             return false;
         }
+        rest = field.rest;
     }
     true
 }
@@ -54,29 +57,32 @@ fn is_index(field: &[u8]) -> bool
 }
 
 /// Whether the fields write a negative cycle in normal form.
-fn writes_cycle(alloc: Global, net: &Network, fields: &[&[u8]]) -> Result<bool, OutOfMemory>
-    ensures { IfOk result (λ b. b ≡ writes_cycle net.now (map (λ f. f.now) fields.now)) }
+fn writes_cycle(alloc: Global, net: &Network, line: &[u8]) -> Result<bool, OutOfMemory>
+    ensures { IfOk result (λ b. b ≡ writes_cycle net.now (fields line.now)) }
 {
-    match arc_numbers(alloc, net, fields)? {
+    match arc_numbers(alloc, net, line)? {
         None => Ok(false),
         Some(numbers) => Ok(is_cycle(net, numbers)),
     }
 }
 
-/// The arcs' numbers that fields write, if all are such numbers.
-fn arc_numbers(
-    alloc: Global,
-    net: &Network,
-    fields: &[&[u8]],
-) -> Result<Option<Vec<u32>>, OutOfMemory>
-    ensures { IfOk result (λ ns. option_map (λ v. v.items) ns ≡ arc_numbers net.now (map (λ f. f.now) fields.now)) }
+/// The arcs' numbers that fields write, or None where one is no such number or there are more than a cycle has.
+fn arc_numbers(alloc: Global, net: &Network, line: &[u8]) -> Result<Option<Vec<u32>>, OutOfMemory>
+    ensures { IfOk result (λ found. MatchOption found (writes_cycle net.now (fields line.now) ≡ false)
+        (λ numbers. arc_numbers net.now (fields line.now) ≡ Some numbers.items)) }
 {
-    let mut numbers = Vec::with_capacity(alloc, fields.len())?;
-    for field in fields {
-        let Some(number) = arc_number(net, field) else {
+    let most = net.points() as usize;
+    let mut numbers = Vec::new(alloc);
+    let mut rest = line;
+    while let Some(field) = take_field(rest) {
+        let Some(number) = arc_number(net, field.text) else {
             return Ok(None);
         };
+        if numbers.len() >= most {
+            return Ok(None);
+        }
         numbers.push(number)?;
+        rest = field.rest;
     }
     Ok(Some(numbers))
 }

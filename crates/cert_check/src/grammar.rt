@@ -1,15 +1,16 @@
 //! What the lines of a certificate do.
-ghost use Rattle.std.specs.Prelude.{◌≡◌, ◌<◌, ◌∷◌, map, length, IfOk};
+ghost use Rattle.std.specs.Prelude.{◌≡◌, ◌<◌, ◌∷◌, false, map, length, IfOk};
 ghost use Rattle.stn_model.specs.Net.{point_count};
-ghost use Rattle.cert_check.specs.Certificates.{alone, consistent_line, headed_line, due_line, cycle_due_line, end_due_line, line_after, line_by_word, header, first_line, is_start, is_ended, fields_do, line_does, IsStage};
+ghost use Rattle.net_text.specs.Fields.{fields};
+ghost use Rattle.cert_check.specs.Certificates.{alone, consistent_line, headed_line, due_line, cycle_due_line, end_due_line, line_after, line_by_word, header, first_line, is_start, is_ended, is_cycle_due, fields_do, line_does, IsStage};
 
 use crate::cycle::cycle_line;
+use crate::field::{Few, take_field};
 use crate::numbers::{kept_as, number_in};
 use crate::section::{from_line, section_line};
 use crate::stage::Stage;
 use crate::verdict::CertCause;
 use crate::words::{Word, word_of};
-use net_text::fields::fields_of;
 use net_text::lines::{is_skipped, is_text};
 use std::alloc::Global;
 use stn_model::{Network, OutOfMemory};
@@ -64,17 +65,17 @@ fn due_line(
     }
 }
 
-/// A line where the cycle is due.
+/// A line where the cycle is due, by its word and what follows it.
 fn cycle_due_line(
     alloc: Global,
     net: &Network,
     word: Word,
-    fields: &[&[u8]],
+    rest: &[u8],
 ) -> Result<Result<Stage, CertCause>, OutOfMemory>
-    ensures { IfOk result (λ step. step ≡ cycle_due_line net.now word (map (λ f. f.now) fields.now)) }
+    ensures { IfOk result (λ step. step ≡ cycle_due_line net.now word (fields rest.now)) }
 {
     match word {
-        Word::Cycle => cycle_line(alloc, net, fields),
+        Word::Cycle => cycle_line(alloc, net, rest),
         _ => Ok(Err(CertCause::UnknownWord)),
     }
 }
@@ -89,15 +90,16 @@ fn end_due_line(consistent: bool, word: Word, fields: &[&[u8]]) -> Result<Stage,
     }
 }
 
-/// A line after the header, by its word and the fields after it.
-fn line_after(
+/// A line after the header where no cycle is due, by its word and the fields after it.
+fn few_after(
     alloc: Global,
     net: &Network,
     stage: Stage,
     word: Word,
     fields: &[&[u8]],
 ) -> Result<Result<Stage, CertCause>, OutOfMemory>
-    requires { IsStage net.now stage }
+    requires stage { IsStage net.now stage }
+    requires other { is_cycle_due stage ≡ false }
     ensures { IfOk result (λ step. step ≡ line_after net.now stage word (map (λ f. f.now) fields.now)) }
 {
     match stage {
@@ -105,10 +107,30 @@ fn line_after(
         Stage::Headed => Ok(headed_line(net, word, fields)),
         Stage::FromDue(next) => due_line(alloc, net, next, word, fields),
         Stage::Section { from, row } => Ok(section_line(net, from, row, word, fields)),
-        Stage::CycleDue => cycle_due_line(alloc, net, word, fields),
+        Stage::CycleDue => Ok(Err(CertCause::UnknownWord)),
         Stage::EndDue { consistent } => Ok(end_due_line(consistent, word, fields)),
         Stage::Ended { .. } => Ok(Err(CertCause::AfterEnd)),
     }
+}
+
+/// A line after the header, by its word and what follows it.
+fn line_after(
+    alloc: Global,
+    net: &Network,
+    stage: Stage,
+    word: Word,
+    rest: &[u8],
+) -> Result<Result<Stage, CertCause>, OutOfMemory>
+    requires { IsStage net.now stage }
+    ensures { IfOk result (λ step. step ≡ line_after net.now stage word (fields rest.now)) }
+{
+    if is_cycle_due(&stage) {
+        let step = cycle_due_line(alloc, net, word, rest)?;
+        return Ok(step);
+    }
+    let few = Few::of(rest);
+    let step = few_after(alloc, net, stage, word, few.fields())?;
+    Ok(step)
 }
 
 /// The first line, after its first field.
@@ -124,12 +146,13 @@ fn header(fields: &[&[u8]]) -> Result<Stage, CertCause>
     Err(CertCause::Version)
 }
 
-/// The first line, by its fields.
-fn first_line(first: &[u8], fields: &[&[u8]]) -> Result<Stage, CertCause>
-    ensures { result ≡ first_line first.now (map (λ f. f.now) fields.now) }
+/// The first line, by its first field and what follows it.
+fn first_line(first: &[u8], rest: &[u8]) -> Result<Stage, CertCause>
+    ensures { result ≡ first_line first.now (fields rest.now) }
 {
     if first == b"mastncert".as_slice() {
-        return header(fields);
+        let few = Few::of(rest);
+        return header(few.fields());
     }
     Err(CertCause::NoHeader)
 }
@@ -144,6 +167,16 @@ fn is_start(stage: &Stage) -> bool
     }
 }
 
+/// Whether the cycle is due.
+fn is_cycle_due(stage: &Stage) -> bool
+    ensures { result ≡ is_cycle_due stage.now }
+{
+    match stage {
+        Stage::CycleDue => true,
+        _ => false,
+    }
+}
+
 /// Whether the `end` line was read.
 fn is_ended(stage: &Stage) -> bool
     ensures { result ≡ is_ended stage.now }
@@ -154,25 +187,23 @@ fn is_ended(stage: &Stage) -> bool
     }
 }
 
-/// A line by its fields.
+/// A line by its first field and what follows it.
 fn fields_do(
     alloc: Global,
     net: &Network,
     stage: Stage,
-    fields: &[&[u8]],
+    first: &[u8],
+    rest: &[u8],
 ) -> Result<Result<Stage, CertCause>, OutOfMemory>
     requires { IsStage net.now stage }
-    ensures { IfOk result (λ step. step ≡ fields_do net.now stage (map (λ f. f.now) fields.now)) }
+    ensures { IfOk result (λ step. step ≡ fields_do net.now stage (first.now ∷ fields rest.now)) }
 {
-    let [first, fields @ ..] = fields else {
-        return Ok(Ok(stage));
-    };
     if is_start(&stage) {
-        return Ok(first_line(first, fields));
+        return Ok(first_line(first, rest));
     }
     match word_of(first) {
         None => Ok(Err(CertCause::UnknownWord)),
-        Some(word) => line_after(alloc, net, stage, word, fields),
+        Some(word) => line_after(alloc, net, stage, word, rest),
     }
 }
 
@@ -195,7 +226,9 @@ pub fn line_does(
     if !is_text(text) {
         return Ok(Err(CertCause::NotText));
     }
-    let fields = fields_of(alloc, text, text.len())?;
-    let step = fields_do(alloc, net, stage, fields.as_slice())?;
+    let Some(first) = take_field(text) else {
+        return Ok(Ok(stage));
+    };
+    let step = fields_do(alloc, net, stage, first.text, first.rest)?;
     Ok(step)
 }

@@ -4,6 +4,7 @@
 pub mod check;
 mod cycle;
 pub mod error_line;
+mod field;
 mod grammar;
 mod numbers;
 mod row;
