@@ -7,6 +7,7 @@ use Rattle.stn_model.specs.Schedules.{IsConsistent}
 use Rattle.stn_model.specs.Valid.{IsNetwork}
 use Rattle.stn_model.specs.Walks.{IsNegativeCycle, IsNormal}
 use Rattle.std.proofs.lemmas.List.{append_assoc}
+use Rattle.stn_model.specs.Limits.{greatest_bound}
 use Rattle.stn_model.proofs.WalkLemmas.{no_schedule}
 use Rattle.net_text.specs.Plain.{line}
 use Rattle.plain_solve.specs.LeastWalks.{LeastWalks}
@@ -34,7 +35,7 @@ module _ (net : Net) where
   end_leads c = line_leads net (stage.EndDue c) (stage.Ended c) (codes "end") [] (record { filled = refl; solid = refl }) tt refl refl refl
 
 module _ (net : Net) (valid : IsNetwork net) where
-  small : point_count net ≤ 1099511627776
+  small : point_count net ≤ greatest_bound
   small = let few = valid.few_points in omega arith
 
   count_goes : fields_do net stage.Headed (codes "consistent" ∷ decimal (point_count net) ∷ []) ≡ Ok (stage.FromDue 0)

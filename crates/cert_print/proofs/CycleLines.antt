@@ -6,6 +6,7 @@ use Rattle.std.specs.Result.{is_ok}
 use Rattle.std.specs.Fmt.{decimal}
 use Rattle.std.proofs.lemmas.Bool.Decides.{nat_tests}
 use Rattle.std.proofs.lemmas.Int.{ints}
+use Rattle.stn_model.specs.Limits.{greatest_bound}
 use Rattle.stn_model.specs.declared.ids.Constraint.{Constraint}
 use Rattle.stn_model.specs.Arcs.{to_at}
 use Rattle.stn_model.specs.Net.{Net, arcs_of}
@@ -41,7 +42,7 @@ spaced_numbers [] = refl
 spaced_numbers (n ∷ ns) = ap (λ l. (32 ∷ decimal n) ++ l) (spaced_numbers ns)
 
 module _ (net : Net) (valid : IsNetwork net) where
-  small : (n : ℕ) → n < length (arcs_of net) → n ≤ 1099511627776
+  small : (n : ℕ) → n < length (arcs_of net) → n ≤ greatest_bound
   small n lt = let few = valid.few_points in let arcs = valid.few_arcs in omega (arith, length-arcs_of net)
 
   arc_number_is : (n : ℕ) → n < length (arcs_of net) → arc_number net (decimal n) ≡ Some n

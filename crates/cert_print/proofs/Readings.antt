@@ -3,6 +3,7 @@ use Rattle.std.proofs.Common.{◌≡◌, ℕ, ◌<◌, ◌≤◌, ℤ, pos, Bool
 use Rattle.std.specs.Fmt.{decimal}
 use Rattle.std.proofs.lemmas.Cmp.{int_eq_equiv}
 use Rattle.std.proofs.lemmas.Int.{ints}
+use Rattle.stn_model.specs.Limits.{greatest_bound}
 use Rattle.net_text.specs.Numbers.{number_of}
 use Rattle.net_text.proofs.FieldsOfLines.{IsField}
 use Rattle.net_text.proofs.NumbersBack.{number-signed_decimal, number_is_field}
@@ -11,10 +12,10 @@ use Rattle.cert_check.specs.declared.verdict.CertCause.TheVariants as cause
 use Rattle.cert_check.proofs.Decided.{is_below}
 use Rattle.cert_check.specs.Certificates.{number_in, index_in, kept_as, number_below, and_then}
 
-pub number-decimal : (n : ℕ) → n ≤ 1099511627776 → number_of (decimal n) ≡ Some (pos n)
+pub number-decimal : (n : ℕ) → n ≤ greatest_bound → number_of (decimal n) ≡ Some (pos n)
 number-decimal n small = number-signed_decimal (pos n) (omega (arith, ints)) (omega (arith, ints))
 
-pub decimal_is_field : (n : ℕ) → n ≤ 1099511627776 → IsField (decimal n)
+pub decimal_is_field : (n : ℕ) → n ≤ greatest_bound → IsField (decimal n)
 decimal_is_field n small = number_is_field (pos n) (omega (arith, ints)) (omega (arith, ints))
 
 pub number_in_is : (f : List ℕ) (z : ℤ) → number_of f ≡ Some z → number_in f ≡ Ok z
@@ -23,7 +24,7 @@ number_in_is f z e = by (number_of f) e
     by : (r : Option ℤ) → r ≡ Some z → ◌≡◌ {A = Result ℤ CertCause} (elim r [ None ↦ Err cause.NumberBad | Some n ↦ Ok n ]) (Ok z)
     by r e = rw e refl
 
-pub index_in_is : (n : ℕ) → n ≤ 1099511627776 → index_in (decimal n) ≡ Ok (pos n)
+pub index_in_is : (n : ℕ) → n ≤ greatest_bound → index_in (decimal n) ≡ Ok (pos n)
 index_in_is n small =
     let fits : int_lt (pos n) (pos 0) ≡ false = grind (arith, ints) in
     ap (λ (r : Result ℤ CertCause). and_then r (λ (m : ℤ). if int_lt m (pos 0) then Err cause.NumberBad else Ok m)) (number_in_is (decimal n) (pos n) (number-decimal n small))

@@ -2,6 +2,7 @@
 use Rattle.std.proofs.Common.{◌≡◌, ◌≢◌, ℕ, ◌-◌, ◌*◌, ◌<◌, ℤ, pos, neg_ℤ, ◌+ℤ◌, ◌≤ℤ◌, length, List, ap, ◌∙◌, arith, ⊎_elim}
 use Rattle.std.proofs.lemmas.Bool.{cases_eq}
 use Rattle.std.proofs.lemmas.Int.{ints}
+use Rattle.stn_model.specs.Limits.{greatest_bound}
 use Rattle.stn_model.specs.Arcs.{arc_at, from_at, to_at, bound_at}
 use Rattle.stn_model.specs.Net.{Net, arcs_of, point_count}
 use Rattle.stn_model.specs.Schedules.{Satisfies, IsLeastBound, time_at}
@@ -40,7 +41,7 @@ module _ (net : Net) (valid : IsNetwork net) where
       omega (arith, ints))
       (cases_eq p 0)
 
-  pub least_low : (i j : ℕ) (d : ℤ) → i < point_count net → j < point_count net → IsLeastBound (point_count net) (arcs_of net) i j d → neg_ℤ (pos 1099511627776) ≤ℤ d
+  pub least_low : (i j : ℕ) (d : ℤ) → i < point_count net → j < point_count net → IsLeastBound (point_count net) (arcs_of net) i j d → neg_ℤ (pos greatest_bound) ≤ℤ d
   least_low i j d li lj h =
       let a = not_early h.times h.satisfies j lj in
       let b = not_late h.times h.satisfies i li in
@@ -48,7 +49,7 @@ module _ (net : Net) (valid : IsNetwork net) where
       let top = valid.horizon_high in
       omega (arith, ints)
 
-  pub least_high : (i j : ℕ) (d : ℤ) → i < point_count net → j < point_count net → IsLeastBound (point_count net) (arcs_of net) i j d → d ≤ℤ pos 1099511627776
+  pub least_high : (i j : ℕ) (d : ℤ) → i < point_count net → j < point_count net → IsLeastBound (point_count net) (arcs_of net) i j d → d ≤ℤ pos greatest_bound
   least_high i j d li lj h =
       let a = not_early h.times h.satisfies i li in
       let b = not_late h.times h.satisfies j lj in

@@ -7,6 +7,7 @@ use Rattle.std.proofs.lemmas.Bool.Decides.{nat_tests}
 use Rattle.std.proofs.lemmas.Int.{ints}
 use Rattle.std.proofs.lemmas.List.{append_assoc, append-nil}
 use Rattle.std.proofs.lemmas.Grind.{flat_map-append}
+use Rattle.stn_model.specs.Limits.{greatest_bound}
 use Rattle.stn_model.specs.Arcs.{no_arc, arc_at, from_at, to_at, bound_at}
 use Rattle.stn_model.specs.Net.{Net, arcs_of, point_count}
 use Rattle.stn_model.specs.Schedules.{time_at}
@@ -94,16 +95,16 @@ module _ (net : Net) (valid : IsNetwork net) (t : LeastWalks) (h : AreLeast net 
   abbrev in_section : ℕ → Stage
   in_section k = stage.Section t.source (row k)
 
-  small_point : (p : ℕ) → p < point_count net → p ≤ 1099511627776
+  small_point : (p : ℕ) → p < point_count net → p ≤ greatest_bound
   small_point p lt = let few = valid.few_points in omega arith
 
-  small_arc : (n : ℕ) → n < length (arcs_of net) → n ≤ 1099511627776
+  small_arc : (n : ℕ) → n < length (arcs_of net) → n ≤ greatest_bound
   small_arc n lt = let few = valid.few_points in let arcs = valid.few_arcs in omega (arith, length-arcs_of net)
 
-  low : (p : ℕ) → p < point_count net → neg_ℤ (pos 1099511627776) ≤ℤ time_at t.distances p
+  low : (p : ℕ) → p < point_count net → neg_ℤ (pos greatest_bound) ≤ℤ time_at t.distances p
   low p lt = least_low net valid t.source p (time_at t.distances p) h.within lt (h.least p lt)
 
-  high : (p : ℕ) → p < point_count net → time_at t.distances p ≤ℤ pos 1099511627776
+  high : (p : ℕ) → p < point_count net → time_at t.distances p ≤ℤ pos greatest_bound
   high p lt = least_high net valid t.source p (time_at t.distances p) h.within lt (h.least p lt)
 
   -- THE LINE OF A POINT. Its arc starts at the source or at a point whose line stands above, so that point has its distance. The point

@@ -5,6 +5,7 @@ use Rattle.std.proofs.lemmas.Int.{ints}
 use Rattle.std.proofs.lemmas.Bool.{cases_eq}
 use Rattle.std.proofs.lemmas.List.{get_or-replicate, length_push, get_or_push, get_or_append_left, length-replicate}
 use Rattle.std.proofs.lemmas.List.Sums.{sum_by-le}
+use Rattle.stn_model.specs.Limits.{greatest_bound}
 use Rattle.stn_model.specs.Net.{Net, arcs_of, point_count}
 use Rattle.stn_model.specs.Valid.{IsNetwork}
 use Rattle.stn_model.specs.Arcs.{arc_at, from_at, to_at, bound_at}
@@ -87,7 +88,7 @@ module _ (net : Net) (g : Graph) (valid : IsGraph g) (o : IsOnward net g) where
         omega (arith, ints))
         (cases_eq p 0);
     counted =
-        let s = sum_by-le (λ t. unsigned_abs (g.top -ℤ t)) 2199023255552 (replicate g.points (pos 0)) (λ k d lt.
+        let s = sum_by-le (λ t. unsigned_abs (g.top -ℤ t)) (2 * greatest_bound) (replicate g.points (pos 0)) (λ k d lt.
         let within : k < g.points = omega (arith, length-replicate g.points (pos 0)) in
         let z = get_or-replicate g.points k (pos 0) d within in
         let low = valid.top_low in

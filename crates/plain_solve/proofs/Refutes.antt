@@ -3,6 +3,7 @@ use Rattle.std.proofs.Common.{◌≡◌, ◌≢◌, ℕ, ◌+◌, ◌-◌, ◌*�
 use Rattle.std.proofs.lemmas.Int.{ints}
 use Rattle.std.proofs.lemmas.List.{get_or_read}
 use Rattle.std.proofs.lemmas.List.Sums.{get_or-le-sum_by}
+use Rattle.stn_model.specs.Limits.{greatest_bound, greatest_walk}
 use Rattle.stn_model.specs.declared.ids.Constraint.{Constraint}
 use Rattle.stn_model.specs.Net.{Net, arcs_of, point_count}
 use Rattle.stn_model.specs.Arcs.{arc_at, from_at, to_at, bound_at, no_arc}
@@ -24,8 +25,8 @@ pub record ReadsArc (g : Graph) (n : ℕ) (a : Constraint) : Type 0 where
   pub bound_is : bound_at g.arcs.items n ≡ a.bound
   pub from_in : a.from.0 < g.points
   pub to_in : a.to.0 < g.points
-  pub bound_low : neg_ℤ (pos 1099511627776) ≤ℤ a.bound
-  pub bound_high : a.bound ≤ℤ pos 1099511627776
+  pub bound_low : neg_ℤ (pos greatest_bound) ≤ℤ a.bound
+  pub bound_high : a.bound ≤ℤ pos greatest_bound
 
 pub read_arc : (g : Graph) → IsGraph g → (n : ℕ) (a : Constraint) → n < length g.arcs.items → a ≡ arc_at g.arcs.items n → ReadsArc g n a
 read_arc g valid n a lt read =
@@ -45,9 +46,9 @@ read_arc g valid n a lt read =
 -- a label that was read at a point
 pub record ReadsLabel (g : Graph) (times : List ℤ) (p : ℕ) (x : ℤ) : Type 0 where
   pub label : time_at times p ≡ x
-  pub low : neg_ℤ (pos 1099511627776) ≤ℤ x
+  pub low : neg_ℤ (pos greatest_bound) ≤ℤ x
   pub high : x ≤ℤ g.top
-  pub small : g.top ≤ℤ pos 1099511627776
+  pub small : g.top ≤ℤ pos greatest_bound
 
 module _ (g : Graph) (times : List ℤ) (last : List ℕ) (raises : ℕ) (h : IsForcing g times last raises) (valid : IsGraph g) where
   pub read_label : (p : ℕ) (x : ℤ) → p < g.points → x ≡ get_or times p x → ReadsLabel g times p x
@@ -60,7 +61,7 @@ module _ (g : Graph) (times : List ℤ) (last : List ℕ) (raises : ℕ) (h : Is
       record { label = is; low = omega (arith, ints); high = omega (arith, ints); small = valid.top_high }
 
   -- where a label can still rise, few raises have been made
-  pub few : (p : ℕ) → p < g.points → time_at times p <ℤ g.top → raises < 9007199254740992
+  pub few : (p : ℕ) → p < g.points → time_at times p <ℤ g.top → raises < 2 * greatest_walk
   few p within more =
       let in_times : p < length times = omega (arith, h.one_each) in
       let s = get_or-le-sum_by (λ t. unsigned_abs (g.top -ℤ t)) times p (pos 0) in_times in

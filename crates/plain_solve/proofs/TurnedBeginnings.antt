@@ -5,6 +5,7 @@ use Rattle.std.proofs.lemmas.Int.{ints}
 use Rattle.std.proofs.lemmas.Bool.{cases_eq}
 use Rattle.std.proofs.lemmas.List.{get_or-replicate, length_push, get_or_push, get_or_append_left, length-replicate, get_or_default, length-map}
 use Rattle.std.proofs.lemmas.List.Sums.{sum_by-le}
+use Rattle.stn_model.specs.Limits.{greatest_bound}
 use Rattle.stn_model.specs.declared.ids.Constraint.{Constraint}
 use Rattle.stn_model.specs.Net.{Net, arcs_of, point_count}
 use Rattle.stn_model.specs.Arcs.{arc_at, from_at, to_at, bound_at}
@@ -200,7 +201,7 @@ module _ (net : Net) (source : ℕ) (g : Graph) (valid : IsGraph g) (o : IsTurne
         (cases_eq 0 p);
     below = λ other keeps p within. let root = ap (time_at other) o.root in let b = below other keeps p within in omega (arith, ints);
     counted =
-        let s = sum_by-le (λ t. unsigned_abs (g.top -ℤ t)) 2199023255552 (first_labels g source) (λ k d lt.
+        let s = sum_by-le (λ t. unsigned_abs (g.top -ℤ t)) (2 * greatest_bound) (first_labels g source) (λ k d lt.
         let len = labels_long in
         let within : k < g.points = omega arith in
         let i = inside k within in

@@ -1,6 +1,7 @@
 -- Arcs along which labels rise: those of a network, as they are or turned round.
-use Rattle.std.specs.Prelude.{◌≡◌, ℕ, ◌<◌, ◌≤◌, pos, ◌≤ℤ◌, length, map}
+use Rattle.std.specs.Prelude.{◌≡◌, ℕ, ◌+◌, ◌*◌, ◌<◌, ◌≤◌, pos, ◌≤ℤ◌, length, map}
 use Rattle.std.specs.List.{All}
+use Rattle.stn_model.specs.Limits.{greatest_bound, most_arcs, most_points}
 use Rattle.stn_model.specs.declared.ids.Constraint.{Constraint}
 use Rattle.stn_model.specs.Net.{Net, arcs_of, point_count}
 use Rattle.stn_model.specs.Valid.{IsArcWithin}
@@ -9,11 +10,11 @@ use Rattle.plain_solve.specs.declared.graph.Graph.{Graph}
 -- few points and arcs, each arc between two different points, numbers of magnitude at most 2^40
 pub record IsGraph (g : Graph) : Type 0 where
   pub root_in : g.root < g.points
-  pub few_points : g.points ≤ 4096
-  pub few_arcs : length g.arcs.items ≤ 73726
+  pub few_points : g.points ≤ most_points
+  pub few_arcs : length g.arcs.items ≤ 2 * most_points + most_arcs
   pub arcs : All (IsArcWithin g.points) g.arcs.items
   pub top_low : pos 0 ≤ℤ g.top
-  pub top_high : g.top ≤ℤ pos 1099511627776
+  pub top_high : g.top ≤ℤ pos greatest_bound
 
 -- the arcs of the network, with z as the root
 pub record IsOnward (net : Net) (g : Graph) : Type 0 where

@@ -1,6 +1,7 @@
 -- Labels that only rise, each point with the arc that raised it last.
-use Rattle.std.specs.Prelude.{◌≡◌, ◌≢◌, ℕ, ◌+◌, ◌<◌, ◌≤◌, ℤ, pos, neg_ℤ, ◌-ℤ◌, ◌≤ℤ◌, ◌<ℤ◌, List, length, slice_index, unsigned_abs, ◌⊎◌}
+use Rattle.std.specs.Prelude.{◌≡◌, ◌≢◌, ℕ, ◌+◌, ◌*◌, ◌<◌, ◌≤◌, ℤ, pos, neg_ℤ, ◌-ℤ◌, ◌≤ℤ◌, ◌<ℤ◌, List, length, slice_index, unsigned_abs, ◌⊎◌}
 use Rattle.std.specs.List.{sum_by}
+use Rattle.stn_model.specs.Limits.{greatest_bound, greatest_walk}
 use Rattle.stn_model.specs.declared.ids.Constraint.{Constraint}
 use Rattle.stn_model.specs.Arcs.{from_at, to_at, bound_at}
 use Rattle.stn_model.specs.Schedules.{KeepsArcs, time_at}
@@ -20,7 +21,7 @@ room g times = sum_by (λ t. unsigned_abs (g.top -ℤ t)) times
 
 -- no lower than -2^40, and no higher than the top
 pub record IsInside (g : Graph) (t : ℤ) : Type 0 where
-  pub low : neg_ℤ (pos 1099511627776) ≤ℤ t
+  pub low : neg_ℤ (pos greatest_bound) ≤ℤ t
   pub high : t ≤ℤ g.top
 
 -- one label and one last arc for each point, and 0 for the root; no times that keep the arcs are lower,
@@ -36,7 +37,7 @@ pub record IsForcing (g : Graph) (times : List ℤ) (last_arcs : List ℕ) (rais
   pub stamped : (p : ℕ) → p < g.points → slice_index stamps p < next
   pub each : (p : ℕ) → p ≢ g.root → p < g.points → IsLast g.arcs.items times stamps p (slice_index last_arcs p)
   pub below : (other : List ℤ) → KeepsArcs g.arcs.items other → (p : ℕ) → p < g.points → time_at times p ≤ℤ (time_at other p -ℤ time_at other g.root)
-  pub counted : raises + room g times ≤ 9007199254740992
+  pub counted : raises + room g times ≤ 2 * greatest_walk
 
 abbrev pub IsForced : Graph → Labels → Type 0
 IsForced g s = IsForcing g s.times.items s.last_arcs.items s.raises

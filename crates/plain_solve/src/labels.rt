@@ -1,5 +1,6 @@
 //! Labels that only rise, each point with the arc that raised it last.
-ghost use Rattle.std.specs.Prelude.{◌≡◌, ℕ, ◌+◌, ◌<◌, ◌≤◌, length, MatchOption, IsTrue, ◌↔◌, set, pos, neg_ℤ, ◌≤ℤ◌, ◌<ℤ◌, ◌-ℤ◌};
+ghost use Rattle.std.specs.Prelude.{◌≡◌, ℕ, ◌+◌, ◌*◌, ◌<◌, ◌≤◌, length, MatchOption, IsTrue, ◌↔◌, set, pos, neg_ℤ, ◌≤ℤ◌, ◌<ℤ◌, ◌-ℤ◌};
+ghost use Rattle.stn_model.specs.Limits.{greatest_bound, greatest_walk};
 ghost use Rattle.plain_solve.specs.Graphs.{IsGraph};
 ghost use Rattle.plain_solve.specs.LabelFacts.{IsForced, IsBroken, Holds, IsOver};
 
@@ -15,10 +16,10 @@ pub struct Labels {
 
 /// Whether an arc of that bound asks for more than the label where it begins.
 fn exceeds(head: i64, bound: i64, tail: i64) -> bool
-    requires low { neg_ℤ (pos 1099511627776) ≤ℤ head }
-    requires high { head ≤ℤ pos 1099511627776 }
-    requires bound_low { neg_ℤ (pos 1099511627776) ≤ℤ bound }
-    requires bound_high { bound ≤ℤ pos 1099511627776 }
+    requires low { neg_ℤ (pos greatest_bound) ≤ℤ head }
+    requires high { head ≤ℤ pos greatest_bound }
+    requires bound_low { neg_ℤ (pos greatest_bound) ≤ℤ bound }
+    requires bound_high { bound ≤ℤ pos greatest_bound }
     ensures { IsTrue result ↔ tail <ℤ (head -ℤ bound) }
 {
     head - bound > tail
@@ -76,7 +77,7 @@ pub fn raise(graph: &Graph, labels: &mut Labels, n: u32) -> Option<u32>
 fn set_label(labels: &mut Labels, point: u32, time: i64, n: u32)
     requires times { point < length labels.old.times.items }
     requires last { point < length labels.old.last_arcs.items }
-    requires few { labels.old.raises < 9007199254740992 }
+    requires few { labels.old.raises < 2 * greatest_walk }
     ensures times { labels.new.times.items ≡ set labels.old.times.items point time }
     ensures last { labels.new.last_arcs.items ≡ set labels.old.last_arcs.items point n }
     ensures raises { labels.new.raises ≡ labels.old.raises + 1 }

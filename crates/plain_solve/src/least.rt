@@ -3,6 +3,7 @@
 //! Labels rise along the arcs turned round, so that the label of a point is its distance from the source
 //! with the sign changed. They start at the walk over the reference point, which the horizon's arcs give.
 ghost use Rattle.std.specs.Prelude.{◌≡◌, ◌≢◌, ℕ, ◌-◌, ◌*◌, ◌<◌, ◌≤◌, length, map, replicate, pos, neg_ℤ, ◌≤ℤ◌, slice_index, IfOk, IfSome, IsSome, ◌↔◌};
+ghost use Rattle.stn_model.specs.Limits.{most_points};
 ghost use Rattle.stn_model.specs.Net.{arcs_of, point_count};
 ghost use Rattle.stn_model.specs.Schedules.{IsConsistent, time_at};
 ghost use Rattle.plain_solve.specs.Graphs.{IsGraph, IsTurned};
@@ -81,7 +82,7 @@ fn repeated(alloc: Global, label: i64, points: u32) -> Result<Vec<i64>, OutOfMem
 
 /// The last arcs of the walks over the reference point: on to each other point, and from the source to it.
 fn arcs_over_reference(alloc: Global, points: u32, source: u32) -> Result<Vec<u32>, OutOfMemory>
-    requires few { points ≤ 4096 }
+    requires few { points ≤ most_points }
     requires some { 0 < points }
     requires within { source < points }
     ensures many { IfOk result (λ arcs. length arcs.items ≡ points) }

@@ -4,6 +4,7 @@
 //! placed after a climb along last arcs, the highest first; but what is proved rests on this alone: a
 //! pass over all points that places none leaves none without a place, since stamps fall upwards.
 ghost use Rattle.std.specs.Prelude.{◌≡◌, ℕ, ◌+◌, ◌<◌, ◌++◌, ◌∷◌, [], ◌⊎◌, ◌↔◌, length, set, slice_index, IfOk, OnOk, IsTrue};
+ghost use Rattle.stn_model.specs.Limits.{most_points};
 ghost use Rattle.plain_solve.specs.Graphs.{IsGraph};
 ghost use Rattle.plain_solve.specs.LabelFacts.{IsForced, Holds};
 ghost use Rattle.plain_solve.specs.OrderFacts.{IsInOrder, IsTried, Grows, GrowsBy, IsArranged};
@@ -43,7 +44,7 @@ fn is_placed(graph: &Graph, arranged: &Arranged, point: u32) -> bool
 /// Gives a point the next place.
 fn put(arranged: &mut Arranged, point: u32) -> Result<(), OutOfMemory>
     requires within { point < length arranged.old.places.items }
-    requires few { length arranged.old.order.items < 4096 }
+    requires few { length arranged.old.order.items < most_points }
     ensures order { OnOk result (arranged.new.order.items ≡ arranged.old.order.items ++ record { 0 = point } ∷ []) }
     ensures places { OnOk result (arranged.new.places.items ≡ set arranged.old.places.items point (length arranged.old.order.items + 1)) }
 {

@@ -1,4 +1,5 @@
-use Rattle.std.proofs.Common.{◌-◌}
+use Rattle.std.proofs.Common.{◌-◌, ◌*◌}
+use Rattle.stn_model.specs.Limits.{greatest_walk}
 use Rattle.plain_solve.specs.LabelFacts.{IsForced}
 use Rattle.plain_solve.proofs.nearest.settle.Given as goal
 
@@ -6,4 +7,4 @@ abbrev pub invariant-looks : goal.invariant-looks
 invariant-looks l = IsForced l.graph l.labels
 
 abbrev pub decreases-looks : goal.decreases-looks
-decreases-looks l = 9007199254740992 - l.labels.raises
+decreases-looks l = 2 * greatest_walk - l.labels.raises

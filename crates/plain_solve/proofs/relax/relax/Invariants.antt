@@ -1,4 +1,5 @@
-use Rattle.std.proofs.Common.{◌-◌}
+use Rattle.std.proofs.Common.{◌-◌, ◌*◌}
+use Rattle.stn_model.specs.Limits.{greatest_walk}
 use Rattle.plain_solve.specs.LabelFacts.{IsForced}
 use Rattle.plain_solve.specs.QueueFacts.{IsLayout, IsQueue}
 use Rattle.plain_solve.proofs.relax.relax.Given as goal
@@ -7,4 +8,4 @@ abbrev pub invariant-rounds : goal.invariant-rounds
 invariant-rounds l = record { forced : IsForced l.graph l.labels; queue : IsQueue l.graph l.queue }
 
 abbrev pub decreases-rounds : goal.decreases-rounds
-decreases-rounds l = 9007199254740992 - l.labels.raises
+decreases-rounds l = 2 * greatest_walk - l.labels.raises
