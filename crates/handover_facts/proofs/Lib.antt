@@ -1,5 +1,6 @@
+pub mod Checked
+pub mod Cells
 pub mod Schedules
 pub mod Summary
 pub mod Facts
-pub mod Least
 pub mod DetourSummary

@@ -47,8 +47,9 @@ order = joined_order ((1 ∷ []) ∷ (4 ∷ []) ∷ []) (2 ∷ 3 ∷ [])
 -- what the definitions say of the two networks
 pub record HandoverHolds : Type 0 where
   pub network : IsNetwork handover
-  pub first_arcs : take 8 (arcs_of handover) ≡ arc 0 1 (pos 100) ∷ arc 1 0 (pos 0) ∷ arc 0 2 (pos 100) ∷ arc 2 0 (pos 0) ∷ arc 0 3 (pos 100) ∷ arc 3 0 (pos 0)
-      ∷ arc 0 4 (pos 100) ∷ arc 4 0 (pos 0) ∷ []
+  pub first_arcs : take 8 (arcs_of handover)
+      ≡ arc 0 1 (pos 100) ∷ arc 1 0 (pos 0) ∷ arc 0 2 (pos 100) ∷ arc 2 0 (pos 0)
+      ∷ arc 0 3 (pos 100) ∷ arc 3 0 (pos 0) ∷ arc 0 4 (pos 100) ∷ arc 4 0 (pos 0) ∷ []
   pub given_arcs : drop 8 (arcs_of handover) ≡ handover.given
   pub own_of_ann : numbers (is_own handover 0) 0 (arcs_of handover) ≡ 0 ∷ 1 ∷ 2 ∷ 3 ∷ 8 ∷ 9 ∷ 10 ∷ []
   pub own_of_bob : numbers (is_own handover 1) 0 (arcs_of handover) ≡ 4 ∷ 5 ∷ 6 ∷ 7 ∷ 13 ∷ 14 ∷ []
@@ -69,3 +70,4 @@ pub record HandoverHolds : Type 0 where
   pub summary : IsSummary handover 0 ann_entries
   pub joined : IsJoined (arcs_of handover) order 2 3
   pub later : IsLaterNeighbour (arcs_of handover) order 1 2
+  pub not_joined : IsJoined (arcs_of handover) order 1 4 → ⊥

@@ -1,2 +1,3 @@
 pub mod Handover
 pub mod Detour
+pub mod Conflict

@@ -1,7 +1,9 @@
-use Rattle.std.proofs.Common.{refl, arith, inl, [], ◌∷◌, pos}
+use Rattle.std.proofs.Common.{refl, arith, [], ◌∷◌}
+use Rattle.std.proofs.lemmas.Bool.{false≢true}
 use Rattle.stn_model.specs.Net.{arcs_of, point_count}
 use Rattle.stn_model.proofs.WalkLemmas.{no_schedule}
-use Rattle.handover_facts.specs.Handover.{refused, arc}
+use Rattle.stn_walk.proofs.Joins.{joined-from_order, order-from_joined}
+use Rattle.handover_facts.specs.Handover.{handover, refused, order}
 use Rattle.handover_facts.proofs.Schedules.{late, early, late_keeps, early_keeps}
 use Rattle.handover_facts.proofs.Summary.{summary_of_ann}
 use Rattle.handover_facts.proofs.Facts.{is_network, negative}
@@ -43,9 +45,7 @@ returns c = record {
   cycle_normal = (omega arith, (omega arith, (omega arith, tt)));
   inconsistent = no_schedule (arcs_of refused) (point_count refused) (1 ∷ 15 ∷ 12 ∷ 10 ∷ []) negative;
   summary = summary_of_ann;
-  joined = record { different = omega arith; inner = []; path = (arc 2 3 (pos 5), (11, omega arith, refl), inl (refl, refl)); before = tt };
-  later = record {
-    joined = record { different = omega arith; inner = []; path = (arc 1 2 (pos 40), (9, omega arith, refl), inl (refl, refl)); before = tt };
-    later = omega arith;
-  };
+  joined = order-from_joined (arcs_of handover) order 2 3 (omega arith) refl;
+  later = record { joined = order-from_joined (arcs_of handover) order 1 2 (omega arith) refl; later = omega arith };
+  not_joined = λ h. false≢true (joined-from_order (arcs_of handover) order 1 4 h).1;
 }
