@@ -1,14 +1,17 @@
 -- Blocks grow by one place, or by an interval without one.
-use Rattle.std.proofs.Common.{◌*◌, zero, suc, ◌≡◌, ℕ, ◌+◌, ◌<◌, ◌≤◌, List, [], ◌∷◌, ◌++◌, Bool, true, false, ◌&&◌, ◌||◌, Option, Some, None, ap, sym, ◌∙◌, refl, length, arith, subst, inl, inr, length-append, add-one}
+use Rattle.std.proofs.Common.{◌*◌, zero, suc, ◌≡◌, ℕ, ◌+◌, ◌<◌, ◌≤◌, List, [], ◌∷◌, ◌++◌, Bool, true, false, ◌&&◌, ◌||◌, Option, Some, None, ap, sym}
+use Rattle.std.proofs.Common.{◌∙◌, refl, length, arith, subst, inl, inr, length-append, add-one}
 use Rattle.std.proofs.Math.ListN.{get_or-eq_default}
+use Rattle.std.proofs.Math.Bool.{and-false}
 use Rattle.std.proofs.lemmas.Bool.{cases_lt}
 use Rattle.std.specs.Prelude.{◌==◌, if◌then◌else◌, nat_le, nat_lt, is_some}
 use Rattle.std.proofs.lemmas.Bool.Decides.{nat_tests}
 use Rattle.dist_rows.specs.declared.cell.Cell.{Cell}
 use Rattle.dist_rows.specs.Cells.{are_neighbours}
-use Rattle.elim_step.specs.Eliminates.{count_below, is_met, is_below, is_negative, remains}
-use Rattle.elim_step.specs.Blocks.{is_in, IsBlock}
-use Rattle.elim_step.proofs.Lists.{is_in-maybe}
+use Rattle.elim_step.specs.Eliminates.{count_below, is_neighbour, is_below, is_negative, remains}
+use Rattle.stn_walk.specs.Eliminations.{is_in}
+use Rattle.elim_step.specs.Blocks.{IsBlock}
+use Rattle.stn_walk.proofs.Members.{is_in-maybe}
 
 pub count_below-gap : (test : ℕ → Bool) (a n : ℕ) → a ≤ n → ((m : ℕ) → a ≤ m → m < n → test m ≡ false) → count_below test n ≡ count_below test a
 count_below-gap test a zero le gap = (let e : a ≡ 0 = omega arith in ap (count_below test) (sym e))
@@ -25,18 +28,20 @@ nothing a p false = grind (arith, nat_tests)
 pub block-empty : (test : ℕ → Bool) (a : ℕ) → IsBlock test a a []
 block-empty test a = record { order = omega arith; each = λ p. nothing a p (test p); count = omega arith }
 
-more : (p a b n : ℕ) (x w t : Bool) → x ≡ (nat_le a p && nat_lt p b && t) → a ≤ b → b ≤ n → (p ≡ n → t ≡ w) → (b ≤ p → p < n → t ≡ false) → (x || (w && (p == n))) ≡ (nat_le a p && nat_lt p (n + 1) && t)
+more : (p a b n : ℕ) (x w t : Bool) → x ≡ (nat_le a p && nat_lt p b && t) → a ≤ b → b ≤ n → (p ≡ n → t ≡ w) → (b ≤ p → p < n → t ≡ false)
+    → (x || (w && (p == n))) ≡ (nat_le a p && nat_lt p (n + 1) && t)
 more p a b n x true true is order le here gap = rw is (grind (arith, nat_tests))
 more p a b n x true false is order le here gap = rw is (grind (arith, nat_tests))
 more p a b n x false true is order le here gap = rw is (grind (arith, nat_tests))
 more p a b n x false false is order le here gap = rw is (grind (arith, nat_tests))
 
 -- one place more, where it passes, and none before it
-pub block-more : (test : ℕ → Bool) (a b n : ℕ) (wanted : Bool) (ns : List ℕ) → IsBlock test a b ns → b ≤ n → test n ≡ wanted → ((m : ℕ) → b ≤ m → m < n → test m ≡ false)
+pub block-more : (test : ℕ → Bool) (a b n : ℕ) (wanted : Bool) (ns : List ℕ) → IsBlock test a b ns → b ≤ n → test n ≡ wanted
+    → ((m : ℕ) → b ≤ m → m < n → test m ≡ false)
     → IsBlock test a (n + 1) (ns ++ (if wanted then n ∷ [] else []))
 block-more test a b n wanted ns was le here gap = record {
   order = (let o = was.order in omega arith);
-  each = λ p. is_in-maybe p n wanted ns ∙ more p a b n (is_in p ns) wanted (test p) (was.each p) was.order le (λ e. ap test e ∙ here) (gap p);
+  each = λ p. is_in-maybe ns n p wanted ∙ more p a b n (is_in ns p) wanted (test p) (was.each p) was.order le (λ e. ap test e ∙ here) (gap p);
   count = counted wanted here;
 } where
   counted : (w : Bool) → test n ≡ w → length (ns ++ (if w then n ∷ [] else [])) + count_below test a ≡ count_below test (n + 1)
@@ -44,14 +49,17 @@ block-more test a b n wanted ns was le here gap = record {
       let e = count_below-gap test b n le gap in
       let c = was.count in
       let s : count_below test (n + 1) ≡ (if w then 1 else 0) + count_below test n = rw add-one (ap (λ b. (if b then 1 else 0) + count_below test n) is) in
-      rw (length-append ns (if w then n ∷ [] else []), s) (elim w as (λ b. length ns + length (if b then n ∷ [] else []) + count_below test a ≡ (if b then 1 else 0) + count_below test n) [ true ↦ omega arith | false ↦ omega arith ])
+      rw (length-append ns (if w then n ∷ [] else []), s)
+      (elim w as (λ b. length ns + length (if b then n ∷ [] else []) + count_below test a ≡ (if b then 1 else 0) + count_below test n)
+      [ true ↦ omega arith | false ↦ omega arith ])
 
 longer : (p a b e : ℕ) (t : Bool) → a ≤ b → b ≤ e → (b ≤ p → p < e → t ≡ false) → (nat_le a p && nat_lt p b && t) ≡ (nat_le a p && nat_lt p e && t)
 longer p a b e true order le gap = grind (arith, nat_tests)
 longer p a b e false order le gap = grind (arith, nat_tests)
 
 -- no place more
-pub block-longer : (test : ℕ → Bool) (a b e : ℕ) (ns : List ℕ) → IsBlock test a b ns → b ≤ e → ((m : ℕ) → b ≤ m → m < e → test m ≡ false) → IsBlock test a e ns
+pub block-longer : (test : ℕ → Bool) (a b e : ℕ) (ns : List ℕ) → IsBlock test a b ns → b ≤ e → ((m : ℕ) → b ≤ m → m < e → test m ≡ false)
+    → IsBlock test a e ns
 block-longer test a b e ns was le gap = record {
   order = (let o = was.order in omega arith);
   each = λ p. was.each p ∙ longer p a b e (test p) was.order le (gap p);
@@ -62,14 +70,14 @@ block-longer test a b e ns was le gap = record {
 pub block-same : (s t : ℕ → Bool) (a b : ℕ) (ns : List ℕ) → ((p : ℕ) → s p ≡ t p) → IsBlock s a b ns → IsBlock t a b ns
 block-same s t a b ns same = subst (λ (f : ℕ → Bool). IsBlock f a b ns) (λ i p. same p i)
 
-pub block-member : (test : ℕ → Bool) (a b : ℕ) (ns : List ℕ) → IsBlock test a b ns → (p : ℕ) → is_in p ns ≡ true → (p < b) × (test p ≡ true)
+pub block-member : (test : ℕ → Bool) (a b : ℕ) (ns : List ℕ) → IsBlock test a b ns → (p : ℕ) → is_in ns p ≡ true → (p < b) × (test p ≡ true)
 block-member test a b ns is p here = read (test p) (sym (is.each p) ∙ here) where
   read : (t : Bool) → (nat_le a p && nat_lt p b && t) ≡ true → (p < b) × (t ≡ true)
   read true h = (grind (arith, nat_tests), refl)
-  read false h = absurd (let e : (nat_le a p && nat_lt p b && false) ≡ false = elim (nat_le a p && nat_lt p b) as (λ b. (b && false) ≡ false) [ true ↦ refl | false ↦ refl ] in let f : false ≡ true = sym e ∙ h in cc)
+  read false h = absurd (let e : (nat_le a p && nat_lt p b && false) ≡ false = and-false (nat_le a p && nat_lt p b) in let f : false ≡ true = sym e ∙ h in cc)
 
-pub block-away : (test : ℕ → Bool) (a b : ℕ) (ns : List ℕ) → IsBlock test a b ns → (p : ℕ) → test p ≡ false → is_in p ns ≡ false
-block-away test a b ns is p away = is.each p ∙ ap (λ t. nat_le a p && nat_lt p b && t) away ∙ elim (nat_le a p && nat_lt p b) as (λ b. (b && false) ≡ false) [ true ↦ refl | false ↦ refl ]
+pub block-away : (test : ℕ → Bool) (a b : ℕ) (ns : List ℕ) → IsBlock test a b ns → (p : ℕ) → test p ≡ false → is_in ns p ≡ false
+block-away test a b ns is p away = is.each p ∙ ap (λ t. nat_le a p && nat_lt p b && t) away ∙ and-false (nat_le a p && nat_lt p b)
 
 -- a place that remains is below the number of places
 pub remains-within : (remain : List Bool) (p : ℕ) → remains remain p ≡ true → p < length remain
@@ -79,24 +87,25 @@ remains-within remain p h =
       | inr above ↦ absurd (let e : remains remain p ≡ false = get_or-eq_default remain false above in let f : false ≡ true = sym e ∙ h in cc)
     ]
 
-pub met-within : (remain : List Bool) (f : ℕ → ℕ → Option Cell) (k p : ℕ) → is_met remain f k p ≡ true → p < length remain
-met-within remain f k p h = remains-within remain p (first (remains remain p) (are_neighbours f k p) h) where
+pub neighbour-within : (remain : List Bool) (f : ℕ → ℕ → Option Cell) (k p : ℕ) → is_neighbour remain f k p ≡ true → p < length remain
+neighbour-within remain f k p h = remains-within remain p (first (remains remain p) (are_neighbours f k p) h) where
   first : (a b : Bool) → (a && b) ≡ true → a ≡ true
   first true b h = refl
   first false b h = h
 
-pub met-false : (remain : List Bool) (f : ℕ → ℕ → Option Cell) (k m : ℕ) → are_neighbours f k m ≡ false → is_met remain f k m ≡ false
-met-false remain f k m h = rw h (elim (remains remain m) as (λ b. (b && false) ≡ false) [ true ↦ refl | false ↦ refl ])
+pub neighbour-false : (remain : List Bool) (f : ℕ → ℕ → Option Cell) (k m : ℕ) → are_neighbours f k m ≡ false → is_neighbour remain f k m ≡ false
+neighbour-false remain f k m h = rw h (and-false (remains remain m))
 
-pub met-here : (remain : List Bool) (f : ℕ → ℕ → Option Cell) (k m : ℕ) → are_neighbours f k m ≡ true → is_met remain f k m ≡ remains remain m
-met-here remain f k m h = rw h (elim (remains remain m) as (λ b. (b && true) ≡ b) [ true ↦ refl | false ↦ refl ])
+pub neighbour-here : (remain : List Bool) (f : ℕ → ℕ → Option Cell) (k m : ℕ) → are_neighbours f k m ≡ true → is_neighbour remain f k m ≡ remains remain m
+neighbour-here remain f k m h = rw h (elim (remains remain m) as (λ b. (b && true) ≡ b) [ true ↦ refl | false ↦ refl ])
 
 -- cells between k and others that are the same have the same neighbours of k
-pub met-same : (remain : List Bool) (f g : ℕ → ℕ → Option Cell) (k : ℕ) → ((p : ℕ) → g k p ≡ f k p) → ((p : ℕ) → g p k ≡ f p k) → (p : ℕ) → is_met remain g k p ≡ is_met remain f k p
-met-same remain f g k out back p = (λ i. remains remain p && (is_some (out p i) || is_some (back p i)))
+pub neighbour-same : (remain : List Bool) (f g : ℕ → ℕ → Option Cell) (k : ℕ) → ((p : ℕ) → g k p ≡ f k p) → ((p : ℕ) → g p k ≡ f p k) → (p : ℕ)
+    → is_neighbour remain g k p ≡ is_neighbour remain f k p
+neighbour-same remain f g k out back p = (λ i. remains remain p && (is_some (out p i) || is_some (back p i)))
 
-pub met-self : (remain : List Bool) (f : ℕ → ℕ → Option Cell) (k : ℕ) → f k k ≡ None → is_met remain f k k ≡ false
-met-self remain f k none = met-false remain f k k (rw none refl)
+pub neighbour-self : (remain : List Bool) (f : ℕ → ℕ → Option Cell) (k : ℕ) → f k k ≡ None → is_neighbour remain f k k ≡ false
+neighbour-self remain f k none = neighbour-false remain f k k (rw none refl)
 
 -- a place without a cell with k does not sum below 0
 pub below-false : (remain : List Bool) (f : ℕ → ℕ → Option Cell) (k m : ℕ) → are_neighbours f k m ≡ false → is_below remain f k m ≡ false
@@ -108,7 +117,8 @@ below-false remain f k m h = none (remains remain m) (f k m) (f m k) h where
   none false (Some a) b h = refl
 
 -- the least places: those before a, those between a and n that are no neighbours of k, and n
-pub below-more : (remain : List Bool) (f : ℕ → ℕ → Option Cell) (k a n : ℕ) → ((m : ℕ) → m < a → is_below remain f k m ≡ false) → ((m : ℕ) → a ≤ m → m < n → are_neighbours f k m ≡ false)
+pub below-more : (remain : List Bool) (f : ℕ → ℕ → Option Cell) (k a n : ℕ) → ((m : ℕ) → m < a → is_below remain f k m ≡ false)
+    → ((m : ℕ) → a ≤ m → m < n → are_neighbours f k m ≡ false)
     → is_below remain f k n ≡ false → (m : ℕ) → m < n + 1 → is_below remain f k m ≡ false
 below-more remain f k a n front gap last m low =
     elim (cases_lt m a) [
@@ -120,7 +130,8 @@ below-more remain f k a n front gap last m low =
     ]
 
 -- the count with one place more
-pub count-step : (test : ℕ → Bool) (a n : ℕ) (w : Bool) → a ≤ n → test n ≡ w → ((m : ℕ) → a ≤ m → m < n → test m ≡ false) → count_below test (n + 1) ≡ count_below test a + (if w then 1 else 0)
+pub count-step : (test : ℕ → Bool) (a n : ℕ) (w : Bool) → a ≤ n → test n ≡ w → ((m : ℕ) → a ≤ m → m < n → test m ≡ false)
+    → count_below test (n + 1) ≡ count_below test a + (if w then 1 else 0)
 count-step test a n w le is gap =
     let e = count_below-gap test a n le gap in
     let s : count_below test (n + 1) ≡ (if w then 1 else 0) + count_below test n = rw add-one (ap (λ b. (if b then 1 else 0) + count_below test n) is) in
@@ -135,14 +146,18 @@ count-le test a (suc n) le =
     ]
 
 -- cells between k and others that are the same have the same blocks
-pub block-forward : (remain : List Bool) (f g : ℕ → ℕ → Option Cell) (k a b : ℕ) (ns : List ℕ) → ((p : ℕ) → g k p ≡ f k p) → ((p : ℕ) → g p k ≡ f p k) → IsBlock (is_met remain f k) a b ns → IsBlock (is_met remain g k) a b ns
-block-forward remain f g k a b ns out back = block-same (is_met remain f k) (is_met remain g k) a b ns (λ p. sym (met-same remain f g k out back p))
+pub block-forward : (remain : List Bool) (f g : ℕ → ℕ → Option Cell) (k a b : ℕ) (ns : List ℕ) → ((p : ℕ) → g k p ≡ f k p) → ((p : ℕ) → g p k ≡ f p k)
+    → IsBlock (is_neighbour remain f k) a b ns → IsBlock (is_neighbour remain g k) a b ns
+block-forward remain f g k a b ns out back =
+    block-same (is_neighbour remain f k) (is_neighbour remain g k) a b ns (λ p. sym (neighbour-same remain f g k out back p))
 
-pub block-back : (remain : List Bool) (f g : ℕ → ℕ → Option Cell) (k a b : ℕ) (ns : List ℕ) → ((p : ℕ) → g k p ≡ f k p) → ((p : ℕ) → g p k ≡ f p k) → IsBlock (is_met remain g k) a b ns → IsBlock (is_met remain f k) a b ns
-block-back remain f g k a b ns out back = block-same (is_met remain g k) (is_met remain f k) a b ns (met-same remain f g k out back)
+pub block-back : (remain : List Bool) (f g : ℕ → ℕ → Option Cell) (k a b : ℕ) (ns : List ℕ) → ((p : ℕ) → g k p ≡ f k p) → ((p : ℕ) → g p k ≡ f p k)
+    → IsBlock (is_neighbour remain g k) a b ns → IsBlock (is_neighbour remain f k) a b ns
+block-back remain f g k a b ns out back = block-same (is_neighbour remain g k) (is_neighbour remain f k) a b ns (neighbour-same remain f g k out back)
 
 -- a place before the end of a block is before the block or in it, where it passes
-pub block-cases : {P : Type 0} (test : ℕ → Bool) (a b : ℕ) (ns : List ℕ) → IsBlock test a b ns → (p : ℕ) → p < b → test p ≡ true → (p < a → P) → (is_in p ns ≡ true → P) → P
+pub block-cases : {P : Type 0} (test : ℕ → Bool) (a b : ℕ) (ns : List ℕ) → IsBlock test a b ns → (p : ℕ) → p < b → test p ≡ true → (p < a → P)
+    → (is_in ns p ≡ true → P) → P
 block-cases {P} test a b ns is p low passes before within =
     elim (cases_lt p a) [
       | inl below ↦ before below

@@ -42,7 +42,8 @@ least_stays : (candidates : List Candidate) (keys : List ℕ) (n k place : ℕ) 
 least_stays candidates keys n k place len least after = record {
   within = (let w = least.within in omega arith);
   least = λ q low. rw (old_key keys k n place len least.within)
-      (each_more (λ q. comes_before (slice_index_or (keys ++ k ∷ []) q 0) (candidate_at candidates q).number (slice_index_or keys place 0) (candidate_at candidates place).number ≡ false) n q low
+      (each_more (λ q. comes_before (slice_index_or (keys ++ k ∷ []) q 0) (candidate_at candidates q).number (slice_index_or keys place 0)
+      (candidate_at candidates place).number ≡ false) n q low
       (λ q less. rw (old_key keys k n q len less) (least.least q less))
       (rw (new_key keys k n len) after));
 }
@@ -53,8 +54,11 @@ least_new : (candidates : List Candidate) (keys : List ℕ) (n k place : ℕ) �
 least_new candidates keys n k place len least before = record {
   within = omega arith;
   least = λ q low. rw (new_key keys k n len)
-      (each_more (λ q. comes_before (slice_index_or (keys ++ k ∷ []) q 0) (candidate_at candidates q).number k (candidate_at candidates n).number ≡ false) n q low
-      (λ q less. rw (old_key keys k n q len less) (not_before (slice_index_or keys q 0) (candidate_at candidates q).number k (candidate_at candidates n).number (slice_index_or keys place 0) (candidate_at candidates place).number before (least.least q less)))
+      (each_more (λ q. comes_before (slice_index_or (keys ++ k ∷ []) q 0) (candidate_at candidates q).number k (candidate_at candidates n).number ≡ false) n
+      q low
+      (λ q less. rw (old_key keys k n q len less)
+      (not_before (slice_index_or keys q 0) (candidate_at candidates q).number k (candidate_at candidates n).number (slice_index_or keys place 0)
+      (candidate_at candidates place).number before (least.least q less)))
       (rw (new_key keys k n len) (not_self k (candidate_at candidates n).number)));
 }
 
@@ -62,7 +66,8 @@ least_first : (candidates : List Candidate) (keys : List ℕ) (n k : ℕ) → le
 least_first candidates keys n k len none = record {
   within = omega arith;
   least = λ q low. rw (new_key keys k n len)
-      (each_more (λ q. comes_before (slice_index_or (keys ++ k ∷ []) q 0) (candidate_at candidates q).number k (candidate_at candidates n).number ≡ false) n q low
+      (each_more (λ q. comes_before (slice_index_or (keys ++ k ∷ []) q 0) (candidate_at candidates q).number k (candidate_at candidates n).number ≡ false) n
+      q low
       (λ q less. absurd (omega arith))
       (rw (new_key keys k n len) (not_self k (candidate_at candidates n).number)));
 }
@@ -72,33 +77,48 @@ found_more : (candidates : List Candidate) (keys : List ℕ) (n : ℕ) (found : 
     → IsFound candidates (keys ++ rank.key ∷ []) (n + 1) (if comes_first rank found then Some (n, rank) else found)
 found_more candidates keys n None rank len is number = (least_first candidates keys n rank.key len is, sym (new_key keys rank.key n len), number)
 found_more candidates keys n (Some (place, other)) rank len is number =
-    elim (comes_before rank.key rank.number other.key other.number) as (λ b. comes_before rank.key rank.number other.key other.number ≡ b → IsFound candidates (keys ++ rank.key ∷ []) (n + 1) (if b then Some (n, rank) else Some (place, other))) [
+    elim (comes_before rank.key rank.number other.key other.number) as
+    (λ b. comes_before rank.key rank.number other.key other.number ≡ b
+    → IsFound candidates (keys ++ rank.key ∷ []) (n + 1) (if b then Some (n, rank) else Some (place, other))) [
       | true ↦ λ t. (least_new candidates keys n rank.key place len is.0 (rw (← number, ← is.1, ← is.2) t), sym (new_key keys rank.key n len), number)
-      | false ↦ λ t. (least_stays candidates keys n rank.key place len is.0 (rw (← number, ← is.1, ← is.2) t), is.1 ∙ sym (old_key keys rank.key n place len is.0.within), is.2)
+      | false ↦ λ t. (
+        least_stays candidates keys n rank.key place len is.0 (rw (← number, ← is.1, ← is.2) t),
+        is.1
+            ∙ sym (old_key keys rank.key n place len is.0.within),
+        is.2,
+      )
     ] refl
 
 -- one candidate more
-pub finds_more : (answers : ℕ → ℕ → ℕ → Type 0) (candidates : List Candidate) (n : ℕ) (found next : Option (ℕ × Rank)) (rank : Rank) → Finds answers candidates n found
+pub finds_more : (answers : ℕ → ℕ → ℕ → Type 0) (candidates : List Candidate) (n : ℕ) (found next : Option (ℕ × Rank)) (rank : Rank)
+    → Finds answers candidates n found
     → answers (candidate_at candidates n).degree (candidate_at candidates n).number rank.key → rank.number ≡ (candidate_at candidates n).number
     → next ≡ first_of n rank found
     → Finds answers candidates (n + 1) next
-finds_more answers candidates n found next rank finds answer number is =
-    (finds.0 ++ rank.key ∷ [], keys_more answers candidates finds.0 n rank.key finds.1 answer, rw is (found_more candidates finds.0 n found rank finds.1.len finds.2 number))
+finds_more answers candidates n found next rank finds answer number is = (
+  finds.0 ++ rank.key ∷ [],
+  keys_more answers candidates finds.0 n rank.key finds.1 answer,
+  rw is (found_more candidates finds.0 n found rank finds.1.len finds.2 number),
+)
 
 -- nothing at first
 pub finds_none : (answers : ℕ → ℕ → ℕ → Type 0) (candidates : List Candidate) → Finds answers candidates 0 None
 finds_none answers candidates = ([], record { len = refl; each = λ q low. absurd (omega arith) }, refl)
 
-picked : (candidates : List Candidate) (keys : List ℕ) (n : ℕ) (found : Option (ℕ × Rank)) → IsFound candidates keys n found → IsPicked candidates keys n (place_found found)
+picked : (candidates : List Candidate) (keys : List ℕ) (n : ℕ) (found : Option (ℕ × Rank)) → IsFound candidates keys n found
+    → IsPicked candidates keys n (place_found found)
 picked candidates keys n None is = is
 picked candidates keys n (Some (place, rank)) is = is.0
 
 -- all of them
-pub picks : (answers : ℕ → ℕ → ℕ → Type 0) (candidates : List Candidate) (n : ℕ) (found : Option (ℕ × Rank)) (result : Option ℕ) → n ≡ length candidates → Finds answers candidates n found → result ≡ place_found found → Picks answers candidates result
+pub picks : (answers : ℕ → ℕ → ℕ → Type 0) (candidates : List Candidate) (n : ℕ) (found : Option (ℕ × Rank)) (result : Option ℕ) → n ≡ length candidates
+    → Finds answers candidates n found → result ≡ place_found found → Picks answers candidates result
 picks answers candidates n found result all finds is = rw (is, ← all) (finds.0, finds.1, picked candidates finds.0 n found finds.2)
 
 -- answers that are answers of another kind too
 pub picks_weaker : (answers other : ℕ → ℕ → ℕ → Type 0) (candidates : List Candidate) (result : Option ℕ)
-    → ((q a : ℕ) → q < length candidates → answers (candidate_at candidates q).degree (candidate_at candidates q).number a → other (candidate_at candidates q).degree (candidate_at candidates q).number a)
+    → ((q a : ℕ) → q < length candidates → answers (candidate_at candidates q).degree (candidate_at candidates q).number a
+    → other (candidate_at candidates q).degree (candidate_at candidates q).number a)
     → Picks answers candidates result → Picks other candidates result
-picks_weaker answers other candidates result weaker picks = (picks.0, record { len = picks.1.len; each = λ q low. weaker q (slice_index_or picks.0 q 0) low (picks.1.each q low) }, picks.2)
+picks_weaker answers other candidates result weaker picks =
+    (picks.0, record { len = picks.1.len; each = λ q low. weaker q (slice_index_or picks.0 q 0) low (picks.1.each q low) }, picks.2)

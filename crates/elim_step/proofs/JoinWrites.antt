@@ -1,5 +1,6 @@
 -- Pairs that are written: one byte, both bytes of a pair, the pairs of a place with others, and the pairs of a list.
-use Rattle.std.proofs.Common.{◌≡◌, ◌≢◌, ℕ, ◌+◌, ◌*◌, ◌<◌, List, Bool, true, false, ◌&&◌, ◌||◌, not, ap, sym, ◌∙◌, refl, length, take, get_or, set, arith, get_or-set_other, get_or-set_same, length-set, append-nil, [], ◌∷◌, ◌++◌}
+use Rattle.std.proofs.Common.{◌≡◌, ◌≢◌, ℕ, ◌+◌, ◌*◌, ◌<◌, List, Bool, true, false, ◌&&◌, ◌||◌, not, ap, sym, ◌∙◌, refl, length, take, get_or, set}
+use Rattle.std.proofs.Common.{arith, get_or-set_other, get_or-set_same, length-set, append-nil, [], ◌∷◌, ◌++◌}
 use Rattle.std.specs.Prelude.{◌==◌, if◌then◌else◌}
 use Rattle.std.specs.List.{AllPairs}
 use Rattle.std.proofs.lemmas.Grind.{get_or_default_zero}
@@ -8,10 +9,11 @@ use Rattle.std.proofs.lemmas.Bool.Decides.{nat_tests}
 use Rattle.std.proofs.lemmas.Nat.{same_from_place, mul-add-lt}
 use Rattle.dist_rows.specs.Matrix.{in_room, within-from_room}
 use Rattle.elim_step.specs.JoinedPlaces.{joined_at}
-use Rattle.elim_step.specs.Blocks.{is_in, IsBlock}
-use Rattle.elim_step.proofs.Lists.{is_in-take, is_in-at}
+use Rattle.stn_walk.specs.Eliminations.{is_in}
+use Rattle.elim_step.specs.Blocks.{IsBlock}
+use Rattle.stn_walk.proofs.Members.{is_in-at}
 use Rattle.elim_step.proofs.Blocks.{block-more, block-member}
-use Rattle.elim_step.proofs.Regions.{and-false}
+use Rattle.std.proofs.Math.Bool.{and-false}
 
 or-true : (b : Bool) → (b || true) ≡ true
 or-true true = refl
@@ -25,17 +27,23 @@ or-false false = refl
 byte-set : (n : ℕ) (bits : List Bool) (i j : ℕ) → length bits ≡ n * n → i < n → j < n → (p q : ℕ)
     → joined_at n (set bits (i * n + j) true) p q ≡ (joined_at n bits p q || (not (p == q) && ((p == i) && (q == j))))
 byte-set n bits i j len low_i low_j p q =
-    elim (in_room n p q) as (λ b. in_room n p q ≡ b → (b && get_or (set bits (i * n + j) true) (p * n + q) false) ≡ ((b && get_or bits (p * n + q) false) || (not (p == q) && ((p == i) && (q == j))))) [
+    elim (in_room n p q) as (λ b. in_room n p q ≡ b
+    → (b && get_or (set bits (i * n + j) true) (p * n + q) false) ≡ ((b && get_or bits (p * n + q) false) || (not (p == q) && ((p == i) && (q == j))))) [
       | true ↦ λ t.
           let within = within-from_room n p q t in
           let apart : (p == q) ≡ false = (let ne = within.2 in grind (arith, nat_tests)) in
-          elim ((p == i) && (q == j)) as (λ b. ((p == i) && (q == j)) ≡ b → get_or (set bits (i * n + j) true) (p * n + q) false ≡ (get_or bits (p * n + q) false || (not (p == q) && b))) [
+          elim ((p == i) && (q == j)) as
+          (λ b. ((p == i) && (q == j)) ≡ b
+          → get_or (set bits (i * n + j) true) (p * n + q) false ≡ (get_or bits (p * n + q) false || (not (p == q) && b))) [
             | true ↦ λ h.
                 let at_i : p ≡ i = grind (arith, nat_tests) in
                 let at_j : q ≡ j = grind (arith, nat_tests) in
-                rw (apart, at_i, at_j) (get_or-set_same bits (i * n + j) true false (rw len (mul-add-lt i n j n low_i low_j)) ∙ sym (or-true (get_or bits (i * n + j) false)))
+                rw (apart, at_i, at_j) (get_or-set_same bits (i * n + j) true false (rw len (mul-add-lt i n j n low_i low_j))
+                ∙ sym (or-true (get_or bits (i * n + j) false)))
             | false ↦ λ h.
-                let differ : p * n + q ≢ i * n + j = λ same. (let e = same_from_place p q i j n within.1 low_j same in let both : ((p == i) && (q == j)) ≡ true = rw (e.0, e.1) (grind (arith, nat_tests)) in cc) in
+                let differ : p * n + q ≢ i * n + j =
+                λ same. (let e = same_from_place p q i j n within.1 low_j same in
+                let both : ((p == i) && (q == j)) ≡ true = rw (e.0, e.1) (grind (arith, nat_tests)) in cc) in
                 rw apart (get_or-set_other bits (i * n + j) (p * n + q) true false differ ∙ or-false (get_or bits (p * n + q) false))
           ] refl
       | false ↦ λ t. grind (arith, nat_tests)
@@ -43,7 +51,8 @@ byte-set n bits i j len low_i low_j p q =
 
 -- both bytes of a pair
 pub pair-set : (n : ℕ) (bits : List Bool) (i j : ℕ) → length bits ≡ n * n → i < n → j < n → (p q : ℕ)
-    → joined_at n (set (set bits (i * n + j) true) (j * n + i) true) p q ≡ (joined_at n bits p q || (not (p == q) && (((p == i) && (q == j)) || ((p == j) && (q == i)))))
+    → joined_at n (set (set bits (i * n + j) true) (j * n + i) true) p q
+    ≡ (joined_at n bits p q || (not (p == q) && (((p == i) && (q == j)) || ((p == j) && (q == i)))))
 pair-set n bits i j len low_i low_j p q =
     byte-set n (set bits (i * n + j) true) j i (length-set bits (i * n + j) true ∙ len) low_j low_i p q
     ∙ ap (λ b. b || (not (p == q) && ((p == j) && (q == i)))) (byte-set n bits i j len low_i low_j p q)
@@ -81,14 +90,6 @@ pairs-more false true false false true true h = absurd (cc)
 pairs-more false true false false true false h = refl
 pairs-more false true false false false qi h = refl
 
--- what a front of a list has, the list has
-pub is_in-front : (p : ℕ) (xs : List ℕ) (n : ℕ) → is_in p (take n xs) ≡ true → is_in p xs ≡ true
-is_in-front p xs n here =
-    elim (is_in p xs) as (λ b. is_in p xs ≡ b → b ≡ true) [
-      | true ↦ λ t. refl
-      | false ↦ λ t. absurd (let away = is_in-take p xs n t in let e : false ≡ true = sym away ∙ here in cc)
-    ] refl
-
 -- two places that are one are no pair
 pub one-place : (p q i : ℕ) → (not (p == q) && ((p == i) && (q == i))) ≡ false
 one-place p q i = grind (arith, nat_tests)
@@ -98,9 +99,11 @@ low : (test : ℕ → Bool) (n : ℕ) (ns : List ℕ) → IsBlock test 0 n ns �
 low test n ns block k d within = rw (get_or_default_zero ns k d within) ((block-member test 0 n ns block (get_or ns k 0) (is_in-at ns k within)).0)
 
 -- one place more, where it is wanted
-pub rising-more : (test : ℕ → Bool) (n : ℕ) (wanted : Bool) (ns : List ℕ) → IsBlock test 0 n ns → AllPairs (λ p q. p < q) ns → AllPairs (λ p q. p < q) (ns ++ (if wanted then n ∷ [] else []))
+pub rising-more : (test : ℕ → Bool) (n : ℕ) (wanted : Bool) (ns : List ℕ) → IsBlock test 0 n ns → AllPairs (λ p q. p < q) ns
+    → AllPairs (λ p q. p < q) (ns ++ (if wanted then n ∷ [] else []))
 rising-more test n true ns block rising = all_pairs_push (λ p q. p < q) ns n rising (low test n ns block)
 rising-more test n false ns block rising = rw (append-nil ns) rising
 
-pub block-next : (test : ℕ → Bool) (n : ℕ) (wanted : Bool) (ns : List ℕ) → IsBlock test 0 n ns → test n ≡ wanted → IsBlock test 0 (n + 1) (ns ++ (if wanted then n ∷ [] else []))
+pub block-next : (test : ℕ → Bool) (n : ℕ) (wanted : Bool) (ns : List ℕ) → IsBlock test 0 n ns → test n ≡ wanted
+    → IsBlock test 0 (n + 1) (ns ++ (if wanted then n ∷ [] else []))
 block-next test n wanted ns block is = block-more test 0 n n wanted ns block (omega arith) is (λ m le lt. absurd (omega arith))

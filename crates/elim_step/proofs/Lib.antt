@@ -1,6 +1,6 @@
-pub mod Lists
 pub mod Blocks
 pub mod Regions
+pub mod Lowered
 pub mod Whole
 pub mod Revisits
 pub mod Finds

@@ -6,17 +6,18 @@
 -- it is formed. And a cell that is lowered to the same sum twice is lowered once. So two regions, one after the other,
 -- are their union (`region-join`), whatever they share, and the order does not matter. Each loop keeps "the cells are
 -- those after the region so far", and at its end the region is that of all pairs of neighbours.
-use Rattle.std.proofs.Common.{◌≡◌, ℕ, ◌<◌, ◌≤◌, List, Bool, true, false, ◌&&◌, ◌||◌, not, Option, Some, None, ap, sym, ◌∙◌, refl, arith, take, get_or, length, ◌+◌}
+use Rattle.std.proofs.Common.{◌≡◌, ℕ, ◌<◌, ◌≤◌, List, Bool, true, false, ◌&&◌, ◌||◌, not, Option, Some, None, ap, sym, ◌∙◌, refl, arith, take, get_or}
+use Rattle.std.proofs.Common.{length, ◌+◌}
 use Rattle.std.specs.Prelude.{◌==◌, if◌then◌else◌, int_lt, nat_lt, nat_le}
+use Rattle.std.proofs.Math.Bool.{and-false}
 use Rattle.std.proofs.lemmas.Bool.Decides.{nat_tests}
 use Rattle.std.proofs.lemmas.Int.{ints}
-use Rattle.std.proofs.lemmas.List.{take_more}
 use Rattle.dist_rows.specs.declared.cell.Cell.{Cell}
 use Rattle.dist_rows.specs.Cells.{lesser}
 use Rattle.elim_step.specs.Eliminates.{lesser_of, sum_through}
-use Rattle.elim_step.specs.Blocks.{is_in, IsBlock}
+use Rattle.stn_walk.specs.Eliminations.{is_in}
+use Rattle.elim_step.specs.Blocks.{IsBlock}
 use Rattle.elim_step.specs.Regions.{through, region_after}
-use Rattle.elim_step.proofs.Lists.{is_in-push}
 
 int_lt-same : (a : _) → int_lt a a ≡ false
 int_lt-same a = grind (arith, ints)
@@ -30,7 +31,8 @@ lesser_of-twice (Some o) (Some c) =
     (elim (int_lt c.weight o.weight) as P [ true ↦ λ h. rw (int_lt-same c.weight) refl | false ↦ λ h. rw h refl ]) refl
 
 chosen : (d e n : Bool) (x s : Option Cell)
-    → (if e && n then lesser_of (if d && n then lesser_of x s else x) s else (if d && n then lesser_of x s else x)) ≡ (if (d || e) && n then lesser_of x s else x)
+    → (if e && n then lesser_of (if d && n then lesser_of x s else x) s else (if d && n then lesser_of x s else x))
+    ≡ (if (d || e) && n then lesser_of x s else x)
 chosen true true true x s = lesser_of-twice x s
 chosen true true false x s = refl
 chosen true false true x s = refl
@@ -41,10 +43,12 @@ pub region-none : (k : ℕ) (D : ℕ → ℕ → Bool) (f : ℕ → ℕ → Opti
 region-none k D f p q h = rw h refl
 
 -- cells between k and others stay
-pub kept-first : (k : ℕ) (D : ℕ → ℕ → Bool) (f g : ℕ → ℕ → Option Cell) → ((p q : ℕ) → g p q ≡ region_after k D f p q) → ((p : ℕ) → D p k ≡ false) → (p : ℕ) → g p k ≡ f p k
+pub kept-first : (k : ℕ) (D : ℕ → ℕ → Bool) (f g : ℕ → ℕ → Option Cell) → ((p q : ℕ) → g p q ≡ region_after k D f p q) → ((p : ℕ) → D p k ≡ false) → (p : ℕ)
+    → g p k ≡ f p k
 kept-first k D f g is away p = is p k ∙ region-none k D f p k (away p)
 
-pub kept-second : (k : ℕ) (D : ℕ → ℕ → Bool) (f g : ℕ → ℕ → Option Cell) → ((p q : ℕ) → g p q ≡ region_after k D f p q) → ((q : ℕ) → D k q ≡ false) → (q : ℕ) → g k q ≡ f k q
+pub kept-second : (k : ℕ) (D : ℕ → ℕ → Bool) (f g : ℕ → ℕ → Option Cell) → ((p q : ℕ) → g p q ≡ region_after k D f p q) → ((q : ℕ) → D k q ≡ false) → (q : ℕ)
+    → g k q ≡ f k q
 kept-second k D f g is away q = is k q ∙ region-none k D f k q (away q)
 
 -- two regions, one after the other, are one region where the first has no pair with k
@@ -54,16 +58,14 @@ pub region-join : (k : ℕ) (D E F : ℕ → ℕ → Bool) (f g h : ℕ → ℕ 
     → (p q : ℕ) → h p q ≡ region_after k F f p q
 region-join k D E F f g h first second away_in away_out joined p q =
     second p q
-    ∙ (λ i. if E p q && not (p == q) then lesser_of (first p q i) (sum_through k (kept-first k D f g first away_in p i) (kept-second k D f g first away_out q i)) else first p q i)
+    ∙ (λ i. if E p q && not (p == q) then lesser_of (first p q i)
+    (sum_through k (kept-first k D f g first away_in p i) (kept-second k D f g first away_out q i)) else first p q i)
     ∙ chosen (D p q) (E p q) (not (p == q)) (f p q) (sum_through k (f p k) (f k q))
     ∙ ap (λ b. if b && not (p == q) then through k f p q else f p q) (joined p q)
 
-pub region-same : (k : ℕ) (D F : ℕ → ℕ → Bool) (f g : ℕ → ℕ → Option Cell) → ((p q : ℕ) → g p q ≡ region_after k D f p q) → ((p q : ℕ) → D p q ≡ F p q) → (p q : ℕ) → g p q ≡ region_after k F f p q
+pub region-same : (k : ℕ) (D F : ℕ → ℕ → Bool) (f g : ℕ → ℕ → Option Cell) → ((p q : ℕ) → g p q ≡ region_after k D f p q) → ((p q : ℕ) → D p q ≡ F p q)
+    → (p q : ℕ) → g p q ≡ region_after k F f p q
 region-same k D F f g is same p q = is p q ∙ ap (λ b. if b && not (p == q) then through k f p q else f p q) (same p q)
-
-pub and-false : (x : Bool) → (x && false) ≡ false
-and-false true = refl
-and-false false = refl
 
 pub and-or-right : (x y z : Bool) → ((x && y) || (x && z)) ≡ (x && (y || z))
 and-or-right true y z = refl
@@ -75,17 +77,13 @@ and-or-left true false true = refl
 and-or-left true false false = refl
 and-or-left false y z = refl
 
--- a front of a list with its next item
-pub front-more : (p : ℕ) (xs : List ℕ) (n : ℕ) → n < length xs → (is_in p (take n xs) || (p == get_or xs n 0)) ≡ is_in p (take (n + 1) xs)
-front-more p xs n low = sym (is_in-push p (get_or xs n 0) (take n xs)) ∙ ap (is_in p) (sym (take_more xs n 0 low))
-
 -- an interval with the next one
 pub interval-more : (a e p : ℕ) (t : Bool) → a ≤ e → ((nat_lt p a && t) || (nat_le a p && nat_lt p e && t)) ≡ (nat_lt p e && t)
 interval-more a e p true le = grind (arith, nat_tests)
 interval-more a e p false le = grind (arith, nat_tests)
 
 -- the places before a block with those of the block
-pub block-joined : (test : ℕ → Bool) (a e : ℕ) (ns : List ℕ) → IsBlock test a e ns → (p : ℕ) → ((nat_lt p a && test p) || is_in p ns) ≡ (nat_lt p e && test p)
+pub block-joined : (test : ℕ → Bool) (a e : ℕ) (ns : List ℕ) → IsBlock test a e ns → (p : ℕ) → ((nat_lt p a && test p) || is_in ns p) ≡ (nat_lt p e && test p)
 block-joined test a e ns is p = ap (λ b. (nat_lt p a && test p) || b) (is.each p) ∙ interval-more a e p (test p) is.order
 
 -- all places that pass are before the end

@@ -1,6 +1,8 @@
 -- One elimination keeps what the cells come to.
-use Rattle.std.proofs.Common.{zero, suc, ◌≡◌, ◌≢◌, ℕ, ◌<◌, ◌≤◌, ◌^◌, List, [], ◌∷◌, Bool, true, false, ◌||◌, ◌&&◌, not, Option, Some, None, ap, sym, ◌∙◌, refl, arith, subst, length, set, length-set, get_or-set_same, get_or-set_other, inl, inr, ◌⊎◌}
+use Rattle.std.proofs.Common.{zero, suc, ◌≡◌, ◌≢◌, ℕ, ◌<◌, ◌≤◌, ◌^◌, List, [], ◌∷◌, Bool, true, false, ◌||◌, ◌&&◌, not, Option, Some, None, ap, sym}
+use Rattle.std.proofs.Common.{◌∙◌, refl, arith, subst, length, set, length-set, get_or-set_same, get_or-set_other, inl, inr, ◌⊎◌}
 use Rattle.std.specs.Prelude.{ℤ, ◌==◌, is_some, IfSome, nat_abs}
+use Rattle.std.proofs.Math.Bool.{or-true, or-false}
 use Rattle.std.proofs.lemmas.Bool.{cases_lt}
 use Rattle.std.proofs.lemmas.Bool.Decides.{nat_tests}
 use Rattle.stn_model.specs.declared.ids.Constraint.{Constraint}
@@ -20,7 +22,8 @@ module _ (points : List ℕ) (arcs : List Constraint) (ground : IsGround points 
   listed_or : (n p : ℕ) → ((k : ℕ) × (k < n) × (point_at points k ≡ p)) ⊎ ((k : ℕ) → k < n → point_at points k ≢ p)
   listed_or zero p = inr (λ k low. absurd (omega arith))
   listed_or (suc n) p =
-      elim (point_at points n == p) as (λ b. (point_at points n == p) ≡ b → ((k : ℕ) × (k < suc n) × (point_at points k ≡ p)) ⊎ ((k : ℕ) → k < suc n → point_at points k ≢ p)) [
+      elim (point_at points n == p) as
+      (λ b. (point_at points n == p) ≡ b → ((k : ℕ) × (k < suc n) × (point_at points k ≡ p)) ⊎ ((k : ℕ) → k < suc n → point_at points k ≢ p)) [
         | true ↦ λ t. inl (n, omega arith, grind (arith, nat_tests))
         | false ↦ λ t. elim (listed_or n p) [
           | inl h ↦ (let low = h.1 in inl (h.0, omega arith, h.2))
@@ -34,7 +37,8 @@ module _ (points : List ℕ) (arcs : List Constraint) (ground : IsGround points 
         ]
 
   -- no walk begins at a point that is not one of the list
-  outside : (inner : ℕ → Bool) (p j : ℕ) (x y : Option ℤ) → ((k : ℕ) → k < length points → point_at points k ≢ p) → IsInnerLeast inner arcs p j x → IsNotBelow x y
+  outside : (inner : ℕ → Bool) (p j : ℕ) (x y : Option ℤ) → ((k : ℕ) → k < length points → point_at points k ≢ p) → IsInnerLeast inner arcs p j x
+      → IsNotBelow x y
   outside inner p j None y away least = tt
   outside inner p j (Some b) y away least = absurd (go least.0.0 least.0.1) where
     go : (w : List Constraint) → IsInner inner arcs p j w → ⊥
@@ -96,7 +100,8 @@ module _ (points : List ℕ) (arcs : List Constraint) (ground : IsGround points 
           → (p : ℕ) → is_in es p ≡ false → p ≢ point_at points k → IsNotBelow (cell_of arcs es p (point_at points k)) (cell_of arcs es (point_at points k) p)
       sums clear p out apart = elim (listed_or (length points) p) [
         | inl m ↦ here p out apart m
-        | inr away ↦ outside (is_in es) p (point_at points k) (cell_of arcs es p (point_at points k)) (cell_of arcs es (point_at points k) p) away (cell-least arcs es h.none_below p (point_at points k))
+        | inr away ↦ outside (is_in es) p (point_at points k) (cell_of arcs es p (point_at points k)) (cell_of arcs es (point_at points k) p) away
+            (cell-least arcs es h.none_below p (point_at points k))
       ] where
         here : (p : ℕ) → is_in es p ≡ false → p ≢ point_at points k → (m : ℕ) × (m < length points) × (point_at points m ≡ p)
             → IsNotBelow (cell_of arcs es p (point_at points k)) (cell_of arcs es (point_at points k) p)
@@ -118,11 +123,14 @@ module _ (points : List ℕ) (arcs : List Constraint) (ground : IsGround points 
         pair_is : (i j : ℕ) → i < length points → j < length points → is_pair remain k i j
             ≡ (not (i == j) && not (is_in (point_at points k ∷ es) (point_at points i) || is_in (point_at points k ∷ es) (point_at points j)))
         pair_is i j li lj =
-            rw (h.remaining i li, h.remaining j lj, same i li, same j lj) (tests (i == j) (point_at points i == point_at points k) (point_at points j == point_at points k) (is_in es (point_at points i)) (is_in es (point_at points j))) where
+            rw (h.remaining i li, h.remaining j lj, same i li, same j lj)
+            (tests (i == j) (point_at points i == point_at points k) (point_at points j == point_at points k) (is_in es (point_at points i))
+            (is_in es (point_at points j))) where
               same : (i : ℕ) → i < length points → (i == k) ≡ (point_at points i == point_at points k)
               same i li = elim (i == k) as (λ b. (i == k) ≡ b → b ≡ (point_at points i == point_at points k)) [
                 | true ↦ λ t. let e : i ≡ k = grind (arith, nat_tests) in let f = ap (point_at points) e in grind (arith, nat_tests)
-                | false ↦ λ t. let ne : i ≢ k = grind (arith, nat_tests) in let f : point_at points i ≢ point_at points k = λ e. ne (ground.apart i k li lk e) in grind (arith, nat_tests)
+                | false ↦ λ t. let ne : i ≢ k =
+                    grind (arith, nat_tests) in let f : point_at points i ≢ point_at points k = λ e. ne (ground.apart i k li lk e) in grind (arith, nat_tests)
               ] refl
 
               tests : (d a c ri rj : Bool) → (not d && not a && not c && not ri && not rj) ≡ (not d && not ((ri || a) || (rj || c)))
@@ -149,7 +157,8 @@ module _ (points : List ℕ) (arcs : List Constraint) (ground : IsGround points 
             let y = point_at points j in
             let z = point_at points k in
             let differ : (i == j) ≡ false = grind (arith, nat_tests) in
-            elim (is_in (z ∷ es) x || is_in (z ∷ es) y) as (λ b. (is_in (z ∷ es) x || is_in (z ∷ es) y) ≡ b → weight_at (after i j) ≡ forward_of arcs (z ∷ es) x y) [
+            elim (is_in (z ∷ es) x || is_in (z ∷ es) y) as
+            (λ b. (is_in (z ∷ es) x || is_in (z ∷ es) y) ≡ b → weight_at (after i j) ≡ forward_of arcs (z ∷ es) x y) [
               | true ↦ λ t.
                   let same : is_pair remain k i j ≡ false = pair_is i j li lj ∙ rw (differ, t) refl in
                   ap weight_at (changed i j ∙ rw same refl) ∙ h.cells i j li lj apart ∙ sym (forward-kept arcs z es x y t)
@@ -166,26 +175,21 @@ module _ (points : List ℕ) (arcs : List Constraint) (ground : IsGround points 
 
         remaining_after : (p : ℕ) → p < length points → remains (set remain k false) p ≡ not (is_in (point_at points k ∷ es) (point_at points p))
         remaining_after p l =
-            elim (p == k) as (λ b. (p == k) ≡ b → remains (set remain k false) p ≡ not (is_in es (point_at points p) || (point_at points p == point_at points k))) [
+            elim (p == k) as (λ b. (p == k) ≡ b
+            → remains (set remain k false) p ≡ not (is_in es (point_at points p) || (point_at points p == point_at points k))) [
               | true ↦ λ t.
                   let e : p ≡ k = grind (arith, nat_tests) in
                   let f : (point_at points p == point_at points k) ≡ true = (let g = ap (point_at points) e in grind (arith, nat_tests)) in
                   let m = h.len in
                   let gone : remains (set remain k false) p ≡ false = rw e (get_or-set_same remain k false false (omega arith)) in
-                  gone ∙ sym (ap not (ap (λ b. is_in es (point_at points p) || b) f ∙ or_true (is_in es (point_at points p))))
+                  gone ∙ sym (ap not (ap (λ b. is_in es (point_at points p) || b) f ∙ or-true (is_in es (point_at points p))))
               | false ↦ λ t.
                   let apart : p ≢ k = grind (arith, nat_tests) in
                   let ne : point_at points p ≢ point_at points k = λ e. apart (ground.apart p k l lk e) in
                   let f : (point_at points p == point_at points k) ≡ false = grind (arith, nat_tests) in
-                  get_or-set_other remain k p false false apart ∙ h.remaining p l ∙ ap not (or_false (is_in es (point_at points p)) ∙ sym (ap (λ b. is_in es (point_at points p) || b) f))
-            ] refl where
-              or_true : (b : Bool) → (b || true) ≡ true
-              or_true true = refl
-              or_true false = refl
-
-              or_false : (b : Bool) → b ≡ (b || false)
-              or_false true = refl
-              or_false false = refl
+                  get_or-set_other remain k p false false apart ∙ h.remaining p l
+                  ∙ ap not (sym (or-false (is_in es (point_at points p))) ∙ sym (ap (λ b. is_in es (point_at points p) || b) f))
+            ] refl
 
         pub eliminates_more : ((m : ℕ) → is_below remain at k m ≡ false) → IsEliminated points arcs (point_at points k ∷ es) after (set remain k false)
         eliminates_more clear = record {

@@ -26,7 +26,8 @@ pub forward-whole : (arcs : List Constraint) (es : List ℕ) (i j : ℕ) → is_
 forward-whole arcs es i j h g = ap (λ o. cell_of arcs o i j) (before-whole es i j h g)
 
 -- a pair that the elimination does not touch
-pub forward-kept : (arcs : List Constraint) (k : ℕ) (es : List ℕ) (i j : ℕ) → (is_in (k ∷ es) i || is_in (k ∷ es) j) ≡ true → forward_of arcs (k ∷ es) i j ≡ forward_of arcs es i j
+pub forward-kept : (arcs : List Constraint) (k : ℕ) (es : List ℕ) (i j : ℕ) → (is_in (k ∷ es) i || is_in (k ∷ es) j) ≡ true
+    → forward_of arcs (k ∷ es) i j ≡ forward_of arcs es i j
 forward-kept arcs k es i j h = ap (λ b. cell_of arcs (if b then before_both es i j else k ∷ es) i j) h
 
 -- whether two weights are there and sum below 0

@@ -1,12 +1,8 @@
 -- Blocks: the places of an interval that pass a test, as a list.
 use Rattle.std.specs.Prelude.{◌≡◌, ℕ, ◌+◌, ◌≤◌, List, [], ◌∷◌, Bool, false, ◌&&◌, ◌||◌, ◌==◌, nat_lt, nat_le, length, take}
+use Rattle.stn_walk.specs.Eliminations.{is_in}
 use Rattle.elim_step.specs.declared.block.Block.{Block}
 use Rattle.elim_step.specs.Eliminates.{count_below}
-
--- whether a place is in a list
-abbrev pub is_in : ℕ → List ℕ → Bool
-is_in p [] = false
-is_in p (x ∷ xs) = (p == x) || is_in p xs
 
 -- the places of a block
 abbrev pub items_of : Block → List ℕ
@@ -15,5 +11,5 @@ items_of b = take b.count b.places
 -- the list holds exactly the places from a to b, without b, that pass the test, each once
 pub record IsBlock (test : ℕ → Bool) (a b : ℕ) (places : List ℕ) : Type 0 where
   pub order : a ≤ b
-  pub each : (p : ℕ) → is_in p places ≡ (nat_le a p && nat_lt p b && test p)
+  pub each : (p : ℕ) → is_in places p ≡ (nat_le a p && nat_lt p b && test p)
   pub count : length places + count_below test a ≡ count_below test b

@@ -1,10 +1,11 @@
 -- What one elimination means. A map of cells is a function of pairs, and `remain` has a truth value for each place.
---   remains, is_met, is_below   which places remain, are neighbours of k, sum below 0 with k
+--   remains, is_neighbour, is_below   which places remain, are neighbours of k, sum below 0 with k
 --   sum_through, lesser_of      the sum of two cells through k; the lesser of two cells
 --   eliminated                  the cells after k is eliminated
 --   count_below                 how many places pass a test
 --   StepGives                   the answer of an elimination with the cells before and after
-use Rattle.std.specs.Prelude.{◌≡◌, ℕ, ◌+◌, ◌<◌, pos, ◌+ℤ◌, int_lt, List, Bool, true, false, ◌&&◌, not, ◌==◌, Option, Some, None, slice_index_or, if◌then◌else◌}
+use Rattle.std.specs.Prelude.{◌≡◌, ℕ, ◌+◌, ◌<◌, pos, ◌+ℤ◌, int_lt, List, Bool, true, false, ◌&&◌, not, ◌==◌, Option, Some, None, slice_index_or}
+use Rattle.std.specs.Prelude.{if◌then◌else◌}
 use Rattle.std.proofs.Common.{zero, suc}
 use Rattle.dist_rows.specs.declared.cell.Cell.{Cell}
 use Rattle.dist_rows.specs.declared.cell.Via.TheVariants.{Through}
@@ -17,8 +18,8 @@ abbrev pub remains : List Bool → ℕ → Bool
 remains remain p = slice_index_or remain p false
 
 -- whether a place is a remaining neighbour of k: it remains and has a cell with k in either direction
-abbrev pub is_met : List Bool → (ℕ → ℕ → Option Cell) → ℕ → ℕ → Bool
-is_met remain f k p = remains remain p && are_neighbours f k p
+abbrev pub is_neighbour : List Bool → (ℕ → ℕ → Option Cell) → ℕ → ℕ → Bool
+is_neighbour remain f k p = remains remain p && are_neighbours f k p
 
 -- the sum of two cells through k, where both are there
 abbrev pub sum_through : ℕ → Option Cell → Option Cell → Option Cell

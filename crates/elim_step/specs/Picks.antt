@@ -29,7 +29,8 @@ pub record AreKeys (answers : ℕ → ℕ → ℕ → Type 0) (candidates : List
 -- no key and number come before that of a place
 pub record IsLeast (candidates : List Candidate) (keys : List ℕ) (n place : ℕ) : Type 0 where
   pub within : place < n
-  pub least : (q : ℕ) → q < n → comes_before (slice_index_or keys q 0) (candidate_at candidates q).number (slice_index_or keys place 0) (candidate_at candidates place).number ≡ false
+  pub least : (q : ℕ) → q < n → comes_before (slice_index_or keys q 0) (candidate_at candidates q).number (slice_index_or keys place 0)
+      (candidate_at candidates place).number ≡ false
 
 abbrev pub IsPicked : List Candidate → List ℕ → ℕ → Option ℕ → Type 0
 IsPicked candidates keys n None = n ≡ 0

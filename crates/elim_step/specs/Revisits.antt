@@ -6,7 +6,7 @@ use Rattle.std.specs.Prelude.{◌≡◌, ℕ, pos, ◌≤ℤ◌, List, [], ◌�
 use Rattle.dist_rows.specs.declared.cell.Cell.{Cell}
 use Rattle.dist_rows.specs.declared.cell.Via.TheVariants.{Given}
 use Rattle.elim_step.specs.Eliminates.{lesser_of, sum_through}
-use Rattle.elim_step.specs.Blocks.{is_in}
+use Rattle.stn_walk.specs.Eliminations.{is_in}
 
 -- the cell between two places, which is 0 from a place to itself
 abbrev pub reach_of : (ℕ → ℕ → Option Cell) → ℕ → ℕ → Option Cell
@@ -45,23 +45,23 @@ place_after forward k j done f p q =
 -- the same between k and each of these places
 abbrev pub places_after : (ℕ → ℕ → Option Cell) → ℕ → List ℕ → List ℕ → (ℕ → ℕ → Option Cell) → ℕ → ℕ → Option Cell
 places_after forward k done later f p q =
-    if (p == k) && is_in q done then least_over (out_sum forward f k q) (f p q) later
-    else (if (q == k) && is_in p done then least_over (in_sum forward f k p) (f p q) later
+    if (p == k) && is_in done q then least_over (out_sum forward f k q) (f p q) later
+    else (if (q == k) && is_in done p then least_over (in_sum forward f k p) (f p q) later
     else f p q)
 
 -- whether a list names no place twice
 abbrev pub names_once : List ℕ → Bool
 names_once [] = true
-names_once (x ∷ xs) = not (is_in x xs) && names_once xs
+names_once (x ∷ xs) = not (is_in xs x) && names_once xs
 
 -- the least weight of the sums that are there, where one is there
 abbrev pub IsLeastSum : (ℕ → Option Cell) → List ℕ → Option Cell → Type 0
-IsLeastSum sum later None = (m : ℕ) → is_in m later ≡ true → sum m ≡ None
+IsLeastSum sum later None = (m : ℕ) → is_in later m ≡ true → sum m ≡ None
 IsLeastSum sum later (Some c) =
-    ((m : ℕ) × (is_in m later ≡ true) × (sum m ≡ Some c)) × ((m : ℕ) → is_in m later ≡ true → IfSome (sum m) (λ s. c.weight ≤ℤ s.weight))
+    ((m : ℕ) × (is_in later m ≡ true) × (sum m ≡ Some c)) × ((m : ℕ) → is_in later m ≡ true → IfSome (sum m) (λ s. c.weight ≤ℤ s.weight))
 
 -- the final cells after a revisit: those between k and the later places are least sums, and no others change
 pub record Revisits (forward : ℕ → ℕ → Option Cell) (k : ℕ) (later : List ℕ) (old new : ℕ → ℕ → Option Cell) : Type 0 where
-  pub out : (j : ℕ) → is_in j later ≡ true → IsLeastSum (out_sum forward old k j) later (new k j)
-  pub back : (j : ℕ) → is_in j later ≡ true → IsLeastSum (in_sum forward old k j) later (new j k)
-  pub others : (p q : ℕ) → ((p == k) && is_in q later) ≡ false → ((q == k) && is_in p later) ≡ false → new p q ≡ old p q
+  pub out : (j : ℕ) → is_in later j ≡ true → IsLeastSum (out_sum forward old k j) later (new k j)
+  pub back : (j : ℕ) → is_in later j ≡ true → IsLeastSum (in_sum forward old k j) later (new j k)
+  pub others : (p q : ℕ) → ((p == k) && is_in later q) ≡ false → ((q == k) && is_in later p) ≡ false → new p q ≡ old p q

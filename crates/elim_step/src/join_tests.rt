@@ -14,8 +14,8 @@ fn meets(
     places: &[u32],
 ) -> Result<(), Fail> {
     assert!(rt; k < joins.size() && remain.len() == joins.size() as usize);
-    let met = joins.met(alloc, k, remain)?;
-    assert_eq!(rt; met.as_slice(), places, "with {k}");
+    let neighbours = joins.neighbours(alloc, k, remain)?;
+    assert_eq!(rt; neighbours.as_slice(), places, "with {k}");
     assert_eq!(rt; joins.count(k, remain) as usize, places.len(), "with {k}");
     Ok(())
 }

@@ -2,7 +2,7 @@
 ghost use Rattle.std.specs.Prelude.{◌≡◌, ℕ, ◌*◌, ◌+◌, ◌<◌, false, true, ◌&&◌, ◌||◌, not, ◌==◌, IfOk, OnOk, length, vec_len, [], ◌∷◌, ◌++◌, if◌then◌else◌};
 ghost use Rattle.std.specs.List.{AllPairs};
 ghost use Rattle.elim_step.specs.Eliminates.{remains, count_below};
-ghost use Rattle.elim_step.specs.Blocks.{is_in};
+ghost use Rattle.stn_walk.specs.Eliminations.{is_in};
 
 use std::alloc::Global;
 use stn_model::OutOfMemory;
@@ -79,8 +79,8 @@ impl Joins {
     // Joins a place with each of others.
     fn join_row(&mut self, i: u32, others: &[u32])
         requires within { i < self.old.size }
-        requires all_within { (j : ℕ) → is_in j others.now ≡ true → j < self.old.size }
-        ensures pairs { (p q : ℕ) → is_joined self.new p q ≡ (is_joined self.old p q || (not (p == q) && (((p == i) && is_in q others.now) || (is_in p others.now && (q == i))))) }
+        requires all_within { (j : ℕ) → is_in others.now j ≡ true → j < self.old.size }
+        ensures pairs { (p q : ℕ) → is_joined self.new p q ≡ (is_joined self.old p q || (not (p == q) && (((p == i) && is_in others.now q) || (is_in others.now p && (q == i))))) }
         ensures size { self.new.size ≡ self.old.size }
     {
         for &j in others {
@@ -91,8 +91,8 @@ impl Joins {
     /// Joins each pair of different places of a list; all are below the size. Takes no memory, and the time of the square
     /// of the list's length.
     pub fn join_all(&mut self, places: &[u32])
-        requires { (p : ℕ) → is_in p places.now ≡ true → p < self.old.size }
-        ensures pairs { (p q : ℕ) → is_joined self.new p q ≡ (is_joined self.old p q || (not (p == q) && is_in p places.now && is_in q places.now)) }
+        requires { (p : ℕ) → is_in places.now p ≡ true → p < self.old.size }
+        ensures pairs { (p q : ℕ) → is_joined self.new p q ≡ (is_joined self.old p q || (not (p == q) && is_in places.now p && is_in places.now q)) }
         ensures size { self.new.size ≡ self.old.size }
     {
         for n in 0..places.len() {
@@ -101,7 +101,7 @@ impl Joins {
     }
 
     // Whether a place remains and is joined with k.
-    fn is_met(&self, k: u32, p: u32, remain: &[bool]) -> bool
+    fn is_neighbour(&self, k: u32, p: u32, remain: &[bool]) -> bool
         requires within { (k < self.now.size) × (p < self.now.size) }
         requires len { length remain.now ≡ self.now.size }
         ensures { result ≡ (remains remain.now p && is_joined self.now k p) }
@@ -111,17 +111,22 @@ impl Joins {
 
     /// The places that remain and are joined with k, by rising number. `remain` has a truth value for each place.
     /// `OutOfMemory` where there is no room for the list.
-    pub fn met(&self, alloc: Global, k: u32, remain: &[bool]) -> Result<Vec<u32>, OutOfMemory>
+    pub fn neighbours(
+        &self,
+        alloc: Global,
+        k: u32,
+        remain: &[bool],
+    ) -> Result<Vec<u32>, OutOfMemory>
         requires within { k < self.now.size }
         requires len { length remain.now ≡ self.now.size }
-        ensures each { IfOk result (λ v. (p : ℕ) → is_in p v.items ≡ (remains remain.now p && is_joined self.now k p)) }
+        ensures each { IfOk result (λ v. (p : ℕ) → is_in v.items p ≡ (remains remain.now p && is_joined self.now k p)) }
         ensures rising { IfOk result (λ v. AllPairs (λ p q. p < q) v.items) }
-        ensures within { IfOk result (λ v. (p : ℕ) → is_in p v.items ≡ true → p < self.now.size) }
+        ensures within { IfOk result (λ v. (p : ℕ) → is_in v.items p ≡ true → p < self.now.size) }
         ensures count { IfOk result (λ v. length v.items ≡ count_below (λ p. remains remain.now p && is_joined self.now k p) self.now.size) }
     {
         let mut places = Vec::new(alloc);
         for p in 0..self.size {
-            push_where(&mut places, p, self.is_met(k, p, remain))?;
+            push_where(&mut places, p, self.is_neighbour(k, p, remain))?;
         }
         Ok(places)
     }
@@ -134,7 +139,7 @@ impl Joins {
     {
         let mut count = 0;
         for p in 0..self.size {
-            count += u32::from(self.is_met(k, p, remain));
+            count += u32::from(self.is_neighbour(k, p, remain));
         }
         count
     }

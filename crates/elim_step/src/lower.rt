@@ -2,8 +2,9 @@
 ghost use Rattle.std.specs.Prelude.{◌≡◌, ◌≢◌, ℕ, ◌+◌, ◌*◌, ◌<◌, ◌≤◌, true, false, ◌&&◌, ◌==◌, IfSome, length};
 ghost use Rattle.dist_rows.specs.declared.cell.Cell.{Cell};
 ghost use Rattle.dist_rows.specs.Cells.{AllLight, IsLight};
-ghost use Rattle.elim_step.specs.Eliminates.{is_met, count_below, sum_through};
-ghost use Rattle.elim_step.specs.Blocks.{is_in, items_of, IsBlock};
+ghost use Rattle.elim_step.specs.Eliminates.{is_neighbour, count_below, sum_through};
+ghost use Rattle.stn_walk.specs.Eliminations.{is_in};
+ghost use Rattle.elim_step.specs.Blocks.{items_of, IsBlock};
 ghost use Rattle.elim_step.specs.Regions.{region_after};
 
 use crate::block::Block;
@@ -52,13 +53,13 @@ fn lower_pair<R: Rows, L: Ledger>(rows: &mut R, k: u32, i: u32, j: u32, steps: &
 // Lowers the pairs of i with each of these places through k.
 fn lower_row<R: Rows, L: Ledger>(rows: &mut R, k: u32, i: u32, others: &[u32], steps: &mut Steps<L>)
     requires within { (k < R.places rows.old) × (i < R.places rows.old) }
-    requires all_within { (j : ℕ) → is_in j others.now ≡ true → j < R.places rows.old }
+    requires all_within { (j : ℕ) → is_in others.now j ≡ true → j < R.places rows.old }
     requires apart { i ≢ k }
-    requires away { is_in k others.now ≡ false }
-    requires room { (j : ℕ) → is_in j others.now ≡ true → i ≢ j → R.has_room rows.old i j ≡ true }
+    requires away { is_in others.now k ≡ false }
+    requires room { (j : ℕ) → is_in others.now j ≡ true → i ≢ j → R.has_room rows.old i j ≡ true }
     requires first { IfSome (R.at rows.old i k) (λ c. IsLight 99 c.weight) }
     requires second { (j : ℕ) → IfSome (R.at rows.old k j) (λ c. IsLight 99 c.weight) }
-    ensures cells { (p q : ℕ) → R.at rows.new p q ≡ region_after k (λ a b. (a == i) && is_in b others.now) (R.at rows.old) p q }
+    ensures cells { (p q : ℕ) → R.at rows.new p q ≡ region_after k (λ a b. (a == i) && is_in others.now b) (R.at rows.old) p q }
     ensures room { (p q : ℕ) → R.has_room rows.new p q ≡ R.has_room rows.old p q }
     ensures places { R.places rows.new ≡ R.places rows.old }
     ensures roomy { R.is_roomy rows.new ≡ R.is_roomy rows.old }
@@ -78,14 +79,14 @@ fn lower_pairs<R: Rows, L: Ledger>(
     steps: &mut Steps<L>,
 )
     requires within { k < R.places rows.old }
-    requires all_within { (i : ℕ) → is_in i places.now ≡ true → i < R.places rows.old }
-    requires others_within { (j : ℕ) → is_in j others.now ≡ true → j < R.places rows.old }
-    requires away { is_in k places.now ≡ false }
-    requires others_away { is_in k others.now ≡ false }
-    requires room { (i j : ℕ) → is_in i places.now ≡ true → is_in j others.now ≡ true → i ≢ j → R.has_room rows.old i j ≡ true }
+    requires all_within { (i : ℕ) → is_in places.now i ≡ true → i < R.places rows.old }
+    requires others_within { (j : ℕ) → is_in others.now j ≡ true → j < R.places rows.old }
+    requires away { is_in places.now k ≡ false }
+    requires others_away { is_in others.now k ≡ false }
+    requires room { (i j : ℕ) → is_in places.now i ≡ true → is_in others.now j ≡ true → i ≢ j → R.has_room rows.old i j ≡ true }
     requires first { (i : ℕ) → IfSome (R.at rows.old i k) (λ c. IsLight 99 c.weight) }
     requires second { (j : ℕ) → IfSome (R.at rows.old k j) (λ c. IsLight 99 c.weight) }
-    ensures cells { (p q : ℕ) → R.at rows.new p q ≡ region_after k (λ a b. is_in a places.now && is_in b others.now) (R.at rows.old) p q }
+    ensures cells { (p q : ℕ) → R.at rows.new p q ≡ region_after k (λ a b. is_in places.now a && is_in others.now b) (R.at rows.old) p q }
     ensures room { (p q : ℕ) → R.has_room rows.new p q ≡ R.has_room rows.old p q }
     ensures places { R.places rows.new ≡ R.places rows.old }
     ensures roomy { R.is_roomy rows.new ≡ R.is_roomy rows.old }
@@ -108,18 +109,18 @@ fn lower_rows<R: Rows, L: Ledger>(
 )
     requires within { k < R.places rows.old }
     requires len { length remain.now ≡ R.places rows.old }
-    requires all_within { (i : ℕ) → is_in i places.now ≡ true → i < R.places rows.old }
-    requires away { is_in k places.now ≡ false }
-    requires first_block { IsBlock (is_met remain.now (R.at rows.old) k) 0 first.now.end (items_of first.now) }
+    requires all_within { (i : ℕ) → is_in places.now i ≡ true → i < R.places rows.old }
+    requires away { is_in places.now k ≡ false }
+    requires first_block { IsBlock (is_neighbour remain.now (R.at rows.old) k) 0 first.now.end (items_of first.now) }
     requires start { (first.now.from ≡ 0) × (first.now.end ≤ R.places rows.old) }
-    requires room { (i j : ℕ) → is_in i places.now ≡ true → is_met remain.now (R.at rows.old) k j ≡ true → i ≢ j → R.has_room rows.old i j ≡ true }
+    requires room { (i j : ℕ) → is_in places.now i ≡ true → is_neighbour remain.now (R.at rows.old) k j ≡ true → i ≢ j → R.has_room rows.old i j ≡ true }
     requires first { (i : ℕ) → IfSome (R.at rows.old i k) (λ c. IsLight 99 c.weight) }
     requires second { (j : ℕ) → IfSome (R.at rows.old k j) (λ c. IsLight 99 c.weight) }
-    ensures cells { (p q : ℕ) → R.at rows.new p q ≡ region_after k (λ a b. is_in a places.now && is_met remain.now (R.at rows.old) k b) (R.at rows.old) p q }
+    ensures cells { (p q : ℕ) → R.at rows.new p q ≡ region_after k (λ a b. is_in places.now a && is_neighbour remain.now (R.at rows.old) k b) (R.at rows.old) p q }
     ensures room { (p q : ℕ) → R.has_room rows.new p q ≡ R.has_room rows.old p q }
     ensures places { R.places rows.new ≡ R.places rows.old }
     ensures roomy { R.is_roomy rows.new ≡ R.is_roomy rows.old }
-    ensures steps { steps.new ≡ steps.old + length places.now * count_below (is_met remain.now (R.at rows.old) k) (R.places rows.old) }
+    ensures steps { steps.new ≡ steps.old + length places.now * count_below (is_neighbour remain.now (R.at rows.old) k) (R.places rows.old) }
 {
     let size = rows.size();
     let mut others = *first;
@@ -143,15 +144,15 @@ pub fn lower_all<R: Rows, L: Ledger>(
 )
     requires within { k < R.places rows.old }
     requires len { length remain.now ≡ R.places rows.old }
-    requires first_block { IsBlock (is_met remain.now (R.at rows.old) k) 0 first.now.end (items_of first.now) }
+    requires first_block { IsBlock (is_neighbour remain.now (R.at rows.old) k) 0 first.now.end (items_of first.now) }
     requires start { (first.now.from ≡ 0) × (first.now.end ≤ R.places rows.old) }
-    requires room { (i j : ℕ) → is_met remain.now (R.at rows.old) k i ≡ true → is_met remain.now (R.at rows.old) k j ≡ true → i ≢ j → R.has_room rows.old i j ≡ true }
+    requires room { (i j : ℕ) → is_neighbour remain.now (R.at rows.old) k i ≡ true → is_neighbour remain.now (R.at rows.old) k j ≡ true → i ≢ j → R.has_room rows.old i j ≡ true }
     requires light { AllLight 99 (R.at rows.old) }
-    ensures cells { (p q : ℕ) → R.at rows.new p q ≡ region_after k (λ a b. is_met remain.now (R.at rows.old) k a && is_met remain.now (R.at rows.old) k b) (R.at rows.old) p q }
+    ensures cells { (p q : ℕ) → R.at rows.new p q ≡ region_after k (λ a b. is_neighbour remain.now (R.at rows.old) k a && is_neighbour remain.now (R.at rows.old) k b) (R.at rows.old) p q }
     ensures room { (p q : ℕ) → R.has_room rows.new p q ≡ R.has_room rows.old p q }
     ensures places { R.places rows.new ≡ R.places rows.old }
     ensures roomy { R.is_roomy rows.new ≡ R.is_roomy rows.old }
-    ensures steps { let d = count_below (is_met remain.now (R.at rows.old) k) (R.places rows.old) in steps.new ≡ steps.old + d * d }
+    ensures steps { let d = count_below (is_neighbour remain.now (R.at rows.old) k) (R.places rows.old) in steps.new ≡ steps.old + d * d }
 {
     let size = rows.size();
     let mut block = *first;

@@ -2,7 +2,7 @@
 //! not for each neighbour, and takes no memory.
 ghost use Rattle.std.specs.Prelude.{◌≡◌, ℕ, ◌<◌, ◌≤◌, false, true, IfSome, IfNone, length};
 ghost use Rattle.dist_rows.specs.Cells.{are_neighbours};
-ghost use Rattle.elim_step.specs.Eliminates.{is_met};
+ghost use Rattle.elim_step.specs.Eliminates.{is_neighbour};
 ghost use Rattle.elim_step.specs.Blocks.{IsBlock, items_of};
 
 use crate::block::{Block, ROOM};
@@ -27,7 +27,7 @@ pub fn block_from<R: Rows>(rows: &R, k: u32, remain: &[bool], from: u32) -> Bloc
     requires len { length remain.now ≡ R.places rows.now }
     requires from { from ≤ R.places rows.now }
     ensures from { result.from ≡ from }
-    ensures block { IsBlock (is_met remain.now (R.at rows.now) k) from result.end (items_of result) }
+    ensures block { IsBlock (is_neighbour remain.now (R.at rows.now) k) from result.end (items_of result) }
     ensures within { result.end ≤ R.places rows.now }
     ensures onward { from < R.places rows.now → from < result.end }
 {

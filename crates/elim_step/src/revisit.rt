@@ -3,7 +3,7 @@ ghost use Rattle.std.specs.Prelude.{◌≡◌, ◌≢◌, ℕ, ◌+◌, ◌*◌,
 ghost use Rattle.dist_rows.specs.declared.cell.Cell.{Cell};
 ghost use Rattle.dist_rows.specs.Cells.{AllLight, IsLight};
 ghost use Rattle.elim_step.specs.Eliminates.{sum_through};
-ghost use Rattle.elim_step.specs.Blocks.{is_in};
+ghost use Rattle.stn_walk.specs.Eliminations.{is_in};
 ghost use Rattle.elim_step.specs.Revisits.{reach_of, sum_lowered, through_after, place_after, places_after, names_once, Revisits};
 
 use crate::lower::sum_of;
@@ -83,9 +83,9 @@ fn revisit_place<R: Rows, L: Ledger>(
     steps: &mut Steps<L>,
 )
     requires within { (k < R.places forward.now) × (j < R.places finals.old) }
-    requires all_within { (m : ℕ) → is_in m later.now ≡ true → (m < R.places forward.now) × (m < R.places finals.old) }
+    requires all_within { (m : ℕ) → is_in later.now m ≡ true → (m < R.places forward.now) × (m < R.places finals.old) }
     requires apart { j ≢ k }
-    requires others { is_in k later.now ≡ false }
+    requires others { is_in later.now k ≡ false }
     requires room_out { R.has_room finals.old k j ≡ true }
     requires room_back { R.has_room finals.old j k ≡ true }
     requires forward { AllLight 99 (R.at forward.now) }
@@ -110,11 +110,11 @@ fn revisit_places<R: Rows, L: Ledger>(
     steps: &mut Steps<L>,
 )
     requires within { k < R.places forward.now }
-    requires all_within { (m : ℕ) → is_in m later.now ≡ true → (m < R.places forward.now) × (m < R.places finals.old) }
-    requires others { is_in k later.now ≡ false }
+    requires all_within { (m : ℕ) → is_in later.now m ≡ true → (m < R.places forward.now) × (m < R.places finals.old) }
+    requires others { is_in later.now k ≡ false }
     requires once { names_once later.now ≡ true }
-    requires room_out { (j : ℕ) → is_in j later.now ≡ true → R.has_room finals.old k j ≡ true }
-    requires room_back { (j : ℕ) → is_in j later.now ≡ true → R.has_room finals.old j k ≡ true }
+    requires room_out { (j : ℕ) → is_in later.now j ≡ true → R.has_room finals.old k j ≡ true }
+    requires room_back { (j : ℕ) → is_in later.now j ≡ true → R.has_room finals.old j k ≡ true }
     requires forward { AllLight 99 (R.at forward.now) }
     requires finals { (p q : ℕ) → p ≢ k → q ≢ k → IfSome (R.at finals.old p q) (λ c. IsLight 99 c.weight) }
     ensures cells { (p q : ℕ) → R.at finals.new p q ≡ places_after (R.at forward.now) k later.now later.now (R.at finals.old) p q }
@@ -145,13 +145,13 @@ pub fn revisit_point<R: Rows, L: Ledger>(
     steps: &mut Steps<L>,
 )
     requires within { k < R.places forward.now }
-    requires all_within { (m : ℕ) → is_in m later.now ≡ true → (m < R.places forward.now) × (m < R.places finals.old) }
+    requires all_within { (m : ℕ) → is_in later.now m ≡ true → (m < R.places forward.now) × (m < R.places finals.old) }
     requires some { 0 < length later.now }
-    requires others { is_in k later.now ≡ false }
+    requires others { is_in later.now k ≡ false }
     requires once { names_once later.now ≡ true }
-    requires room_out { (j : ℕ) → is_in j later.now ≡ true → R.has_room finals.old k j ≡ true }
-    requires room_back { (j : ℕ) → is_in j later.now ≡ true → R.has_room finals.old j k ≡ true }
-    requires fresh { (j : ℕ) → is_in j later.now ≡ true → (R.at finals.old k j ≡ None) × (R.at finals.old j k ≡ None) }
+    requires room_out { (j : ℕ) → is_in later.now j ≡ true → R.has_room finals.old k j ≡ true }
+    requires room_back { (j : ℕ) → is_in later.now j ≡ true → R.has_room finals.old j k ≡ true }
+    requires fresh { (j : ℕ) → is_in later.now j ≡ true → (R.at finals.old k j ≡ None) × (R.at finals.old j k ≡ None) }
     requires forward { AllLight 99 (R.at forward.now) }
     requires finals { AllLight 99 (R.at finals.old) }
     ensures cells { Revisits (R.at forward.now) k later.now (R.at finals.old) (R.at finals.new) }

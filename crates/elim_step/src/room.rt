@@ -1,7 +1,8 @@
 //! Room for all pairs of the remaining neighbours of a place, made before any cell is lowered.
 ghost use Rattle.std.specs.Prelude.{◌≡◌, ◌≢◌, ℕ, ◌<◌, ◌≤◌, true, false, OnOk, OnErr, length};
-ghost use Rattle.elim_step.specs.Eliminates.{is_met};
-ghost use Rattle.elim_step.specs.Blocks.{is_in, items_of, IsBlock};
+ghost use Rattle.elim_step.specs.Eliminates.{is_neighbour};
+ghost use Rattle.stn_walk.specs.Eliminations.{is_in};
+ghost use Rattle.elim_step.specs.Blocks.{items_of, IsBlock};
 
 use crate::block::Block;
 use crate::neighbours::block_from;
@@ -27,11 +28,11 @@ fn make_room_pair<R: Rows>(rows: &mut R, i: u32, j: u32) -> Result<(), OutOfMemo
 // Makes room for the pairs of i with each of these places.
 fn make_room_row<R: Rows>(rows: &mut R, i: u32, others: &[u32]) -> Result<(), OutOfMemory>
     requires within { i < R.places rows.old }
-    requires all_within { (j : ℕ) → is_in j others.now ≡ true → j < R.places rows.old }
+    requires all_within { (j : ℕ) → is_in others.now j ≡ true → j < R.places rows.old }
     ensures cells { (p q : ℕ) → R.at rows.new p q ≡ R.at rows.old p q }
     ensures places { R.places rows.new ≡ R.places rows.old }
     ensures roomy { R.is_roomy rows.new ≡ R.is_roomy rows.old }
-    ensures room { OnOk result ((j : ℕ) → is_in j others.now ≡ true → i ≢ j → R.has_room rows.new i j ≡ true) }
+    ensures room { OnOk result ((j : ℕ) → is_in others.now j ≡ true → i ≢ j → R.has_room rows.new i j ≡ true) }
     ensures other_room { (p q : ℕ) → R.has_room rows.old p q ≡ true → R.has_room rows.new p q ≡ true }
     ensures err { OnErr result (R.is_roomy rows.old ≡ false) }
 {
@@ -43,12 +44,12 @@ fn make_room_row<R: Rows>(rows: &mut R, i: u32, others: &[u32]) -> Result<(), Ou
 
 // Makes room for the pairs of each of some places with each of others.
 fn make_room_pairs<R: Rows>(rows: &mut R, places: &[u32], others: &[u32]) -> Result<(), OutOfMemory>
-    requires within { (i : ℕ) → is_in i places.now ≡ true → i < R.places rows.old }
-    requires all_within { (j : ℕ) → is_in j others.now ≡ true → j < R.places rows.old }
+    requires within { (i : ℕ) → is_in places.now i ≡ true → i < R.places rows.old }
+    requires all_within { (j : ℕ) → is_in others.now j ≡ true → j < R.places rows.old }
     ensures cells { (p q : ℕ) → R.at rows.new p q ≡ R.at rows.old p q }
     ensures places { R.places rows.new ≡ R.places rows.old }
     ensures roomy { R.is_roomy rows.new ≡ R.is_roomy rows.old }
-    ensures room { OnOk result ((i j : ℕ) → is_in i places.now ≡ true → is_in j others.now ≡ true → i ≢ j → R.has_room rows.new i j ≡ true) }
+    ensures room { OnOk result ((i j : ℕ) → is_in places.now i ≡ true → is_in others.now j ≡ true → i ≢ j → R.has_room rows.new i j ≡ true) }
     ensures other_room { (p q : ℕ) → R.has_room rows.old p q ≡ true → R.has_room rows.new p q ≡ true }
     ensures err { OnErr result (R.is_roomy rows.old ≡ false) }
 {
@@ -68,13 +69,13 @@ fn make_room_rows<R: Rows>(
 ) -> Result<(), OutOfMemory>
     requires within { k < R.places rows.old }
     requires len { length remain.now ≡ R.places rows.old }
-    requires all_within { (i : ℕ) → is_in i places.now ≡ true → i < R.places rows.old }
-    requires first { IsBlock (is_met remain.now (R.at rows.old) k) 0 first.now.end (items_of first.now) }
+    requires all_within { (i : ℕ) → is_in places.now i ≡ true → i < R.places rows.old }
+    requires first { IsBlock (is_neighbour remain.now (R.at rows.old) k) 0 first.now.end (items_of first.now) }
     requires start { (first.now.from ≡ 0) × (first.now.end ≤ R.places rows.old) }
     ensures cells { (p q : ℕ) → R.at rows.new p q ≡ R.at rows.old p q }
     ensures places { R.places rows.new ≡ R.places rows.old }
     ensures roomy { R.is_roomy rows.new ≡ R.is_roomy rows.old }
-    ensures room { OnOk result ((i j : ℕ) → is_in i places.now ≡ true → is_met remain.now (R.at rows.old) k j ≡ true → i ≢ j → R.has_room rows.new i j ≡ true) }
+    ensures room { OnOk result ((i j : ℕ) → is_in places.now i ≡ true → is_neighbour remain.now (R.at rows.old) k j ≡ true → i ≢ j → R.has_room rows.new i j ≡ true) }
     ensures other_room { (p q : ℕ) → R.has_room rows.old p q ≡ true → R.has_room rows.new p q ≡ true }
     ensures err { OnErr result (R.is_roomy rows.old ≡ false) }
 {
@@ -99,12 +100,12 @@ pub fn make_rooms<R: Rows>(
 ) -> Result<(), OutOfMemory>
     requires within { k < R.places rows.old }
     requires len { length remain.now ≡ R.places rows.old }
-    requires first { IsBlock (is_met remain.now (R.at rows.old) k) 0 first.now.end (items_of first.now) }
+    requires first { IsBlock (is_neighbour remain.now (R.at rows.old) k) 0 first.now.end (items_of first.now) }
     requires start { (first.now.from ≡ 0) × (first.now.end ≤ R.places rows.old) }
     ensures cells { (p q : ℕ) → R.at rows.new p q ≡ R.at rows.old p q }
     ensures places { R.places rows.new ≡ R.places rows.old }
     ensures roomy { R.is_roomy rows.new ≡ R.is_roomy rows.old }
-    ensures room { OnOk result ((i j : ℕ) → is_met remain.now (R.at rows.old) k i ≡ true → is_met remain.now (R.at rows.old) k j ≡ true → i ≢ j → R.has_room rows.new i j ≡ true) }
+    ensures room { OnOk result ((i j : ℕ) → is_neighbour remain.now (R.at rows.old) k i ≡ true → is_neighbour remain.now (R.at rows.old) k j ≡ true → i ≢ j → R.has_room rows.new i j ≡ true) }
     ensures other_room { (p q : ℕ) → R.has_room rows.old p q ≡ true → R.has_room rows.new p q ≡ true }
     ensures err { OnErr result (R.is_roomy rows.old ≡ false) }
 {

@@ -2,7 +2,7 @@
 ghost use Rattle.std.specs.Prelude.{◌≡◌, ◌≢◌, ℕ, ◌+◌, ◌*◌, ◌<◌, ◌≤◌, true, false, ◌&&◌, IfOk, IsOk, OnErr, IfSome, IfNone, length, if◌then◌else◌};
 ghost use Rattle.dist_rows.specs.declared.cell.Cell.{Cell};
 ghost use Rattle.dist_rows.specs.Cells.{AllLight, IsLight};
-ghost use Rattle.elim_step.specs.Eliminates.{is_negative, is_met, is_below, count_below, StepGives, StaysAtNegative};
+ghost use Rattle.elim_step.specs.Eliminates.{is_negative, is_neighbour, is_below, count_below, StepGives, StaysAtNegative};
 
 use crate::lower::lower_all;
 use crate::neighbours::{block_from, next_from};
@@ -67,8 +67,8 @@ fn first_negative<R: Rows, L: Ledger>(
     ensures least { IfSome result (λ i. (m : ℕ) → m < i → is_below remain.now (R.at rows.now) k m ≡ false) }
     ensures none { IfNone result ((m : ℕ) → is_below remain.now (R.at rows.now) k m ≡ false) }
     ensures more { IfSome result (λ i. steps.old < steps.new) }
-    ensures each { IfNone result (steps.new ≡ steps.old + count_below (is_met remain.now (R.at rows.now) k) (R.places rows.now)) }
-    ensures most { steps.new ≤ steps.old + count_below (is_met remain.now (R.at rows.now) k) (R.places rows.now) }
+    ensures each { IfNone result (steps.new ≡ steps.old + count_below (is_neighbour remain.now (R.at rows.now) k) (R.places rows.now)) }
+    ensures most { steps.new ≤ steps.old + count_below (is_neighbour remain.now (R.at rows.now) k) (R.places rows.now) }
 {
     let _size = rows.size();
     let mut from = 0;
@@ -108,8 +108,8 @@ pub fn eliminate_point<R: Rows, L: Ledger>(
     ensures answers { OnErr result (R.is_roomy rows.old ≡ false) }
     ensures places { R.places rows.new ≡ R.places rows.old }
     ensures roomy { R.is_roomy rows.new ≡ R.is_roomy rows.old }
-    ensures most { let d = count_below (is_met remain.now (R.at rows.old) k) (R.places rows.old) in steps.new ≤ steps.old + (d * d + d) }
-    ensures some { IfOk result (λ f. 0 < count_below (is_met remain.now (R.at rows.old) k) (R.places rows.old) → steps.old < steps.new) }
+    ensures most { let d = count_below (is_neighbour remain.now (R.at rows.old) k) (R.places rows.old) in steps.new ≤ steps.old + (d * d + d) }
+    ensures some { IfOk result (λ f. 0 < count_below (is_neighbour remain.now (R.at rows.old) k) (R.places rows.old) → steps.old < steps.new) }
     ensures rises { steps.old ≤ steps.new }
 {
     if let Some(i) = first_negative(rows, k, remain, steps) {

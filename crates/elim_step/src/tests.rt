@@ -1,7 +1,7 @@
 //! Small networks worked by hand: eliminations, a revisit, picks and summaries.
 ghost use Rattle.std.specs.Prelude.{◌≡◌, ◌≢◌, ℕ, ◌<◌, true, false, None, IsTrue, length};
 ghost use Rattle.dist_rows.specs.Cells.{AllLight, IsLight};
-ghost use Rattle.elim_step.specs.Blocks.{is_in};
+ghost use Rattle.stn_walk.specs.Eliminations.{is_in};
 ghost use Rattle.elim_step.specs.Revisits.{names_once};
 
 use crate::{
@@ -273,8 +273,8 @@ fn is_free<R: Rows>(rows: &R, k: u32, j: u32) -> bool
 // Whether no cell stands between k and any of these places.
 fn is_apart<R: Rows>(rows: &R, k: u32, later: &[u32]) -> bool
     requires within { k < R.places rows.now }
-    requires all_within { (m : ℕ) → is_in m later.now ≡ true → m < R.places rows.now }
-    ensures { IsTrue result → (j : ℕ) → is_in j later.now ≡ true → (R.at rows.now k j ≡ None) × (R.at rows.now j k ≡ None) }
+    requires all_within { (m : ℕ) → is_in later.now m ≡ true → m < R.places rows.now }
+    ensures { IsTrue result → (j : ℕ) → is_in later.now j ≡ true → (R.at rows.now k j ≡ None) × (R.at rows.now j k ≡ None) }
 {
     for &j in later {
         if !is_free(rows, k, j) {
@@ -294,9 +294,9 @@ fn revisits<L: Ledger>(
     requires name { blank.name ≡ L.name }
     requires parts { (blank.parts ≡ L.parts) × (blank.parts ≡ 1) }
     requires some { 0 < length later.now }
-    requires others { is_in 1 later.now ≡ false }
+    requires others { is_in later.now 1 ≡ false }
     requires once { names_once later.now ≡ true }
-    requires within { (m : ℕ) → is_in m later.now ≡ true → m < 4 }
+    requires within { (m : ℕ) → is_in later.now m ≡ true → m < 4 }
 {
     let mut forward = MatrixRows::new(alloc, 4)?;
     let cells = [(1, 0, 15), (0, 1, 35), (1, 2, 40), (2, 1, -30)];

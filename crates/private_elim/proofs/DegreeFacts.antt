@@ -13,7 +13,7 @@ use Rattle.elim_step.specs.Eliminates.{remains, count_below}
 use Rattle.elim_step.specs.Eliminated.{point_at}
 use Rattle.private_elim.specs.Locals.{LocalView, arcs_in, is_point_of, place_in}
 use Rattle.private_elim.specs.Taken.{IsTaken}
-use Rattle.private_elim.specs.Picked.{IsMet, IsDegree}
+use Rattle.private_elim.specs.Picked.{IsNeighbour, IsDegree}
 use Rattle.private_elim.proofs.Basics.{both, turned, in_at}
 use Rattle.private_elim.proofs.LocalFacts.{place_of_point_at}
 use Rattle.private_elim.proofs.Places.{place_found}
@@ -120,9 +120,9 @@ pub degree_is : (v : LocalView) (order : List ℕ) (at : ℕ → ℕ → Option 
     → (k : ℕ) → k < length v.points → is_in (reverse order) (point_at v.points k) ≡ false
     → IsDegree v (reverse order) (point_at v.points k) (count_below (λ q. remains remain q && joined k q) (length v.points))
 degree_is v order at joined remain h k lk fresh = record {
-  met = points_where v.points test (length v.points);
+  neighbours = points_where v.points test (length v.points);
   once = where_once v.points apart test (length v.points) (omega arith);
-  each = λ q. (λ here. to_met q (where_from v.points apart test (length v.points) q here), λ m. from_met q m);
+  each = λ q. (λ here. to_neighbour q (where_from v.points apart test (length v.points) q here), λ m. from_neighbour q m);
   many = where_many v.points apart test (length v.points);
 } where
   test : ℕ → Bool
@@ -131,8 +131,8 @@ degree_is v order at joined remain h k lk fresh = record {
   apart : (i j : ℕ) → i < length v.points → j < length v.points → point_at v.points i ≡ point_at v.points j → i ≡ j
   apart = (local_ground v h.known).apart
 
-  to_met : (q : ℕ) → IsWhere v.points apart test (length v.points) q → IsMet v (reverse order) (point_at v.points k) q
-  to_met q w =
+  to_neighbour : (q : ℕ) → IsWhere v.points apart test (length v.points) q → IsNeighbour v (reverse order) (point_at v.points k) q
+  to_neighbour q w =
       let m = w.place in
       let lm = w.low in
       let b = both (remains remain m) (joined k m) w.passes in
@@ -141,20 +141,20 @@ degree_is v order at joined remain h k lk fresh = record {
       let path : HasPath (is_in (reverse order)) (arcs_in v) (point_at v.points k) (point_at v.points m) =
       path-from_joined (arcs_in v) (reverse order) (point_at v.points k) (point_at v.points m)
       (ap (λ es. joined_of (arcs_in v) es (point_at v.points k) (point_at v.points m)) (sym (before-whole (reverse order) (point_at v.points k) (point_at v.points m) fresh left)) ∙ sym (h.joins k m lk lm mk) ∙ b.1) in
-      subst (IsMet v (reverse order) (point_at v.points k)) w.is
+      subst (IsNeighbour v (reverse order) (point_at v.points k)) w.is
       (record { point = ap is_some (place_of_point_at v h.known m lm); left = left; other = λ e. mk (apart k m lk lm (sym e)); inner = path.0; path = path.1; through = path.2 })
 
-  from_met : (q : ℕ) → IsMet v (reverse order) (point_at v.points k) q → is_in (points_where v.points test (length v.points)) q ≡ true
-  from_met q met = by (place_in v.points q) refl where
+  from_neighbour : (q : ℕ) → IsNeighbour v (reverse order) (point_at v.points k) q → is_in (points_where v.points test (length v.points)) q ≡ true
+  from_neighbour q neighbours = by (place_in v.points q) refl where
     by : (o : Option ℕ) → place_in v.points q ≡ o → is_in (points_where v.points test (length v.points)) q ≡ true
-    by None e = absurd (let p = met.point in let n : is_point_of v q ≡ false = ap is_some e in cc)
+    by None e = absurd (let p = neighbours.point in let n : is_point_of v q ≡ false = ap is_some e in cc)
     by (Some m) e =
         let found = place_found v.points q m e in
         let lm = found.0 in
         let is = found.1 in
-        let left : is_in (reverse order) (point_at v.points m) ≡ false = rw is met.left in
-        let mk : k ≢ m = λ same. met.other (sym is ∙ ap (point_at v.points) (sym same)) in
+        let left : is_in (reverse order) (point_at v.points m) ≡ false = rw is neighbours.left in
+        let mk : k ≢ m = λ same. neighbours.other (sym is ∙ ap (point_at v.points) (sym same)) in
         let stays : remains remain m ≡ true = h.cells.remaining m lm ∙ ap not left in
-        let join : joined_of (arcs_in v) (reverse order) (point_at v.points k) q ≡ true = joined-from_path (arcs_in v) (reverse order) (point_at v.points k) q (met.inner, met.path, met.through) in
+        let join : joined_of (arcs_in v) (reverse order) (point_at v.points k) q ≡ true = joined-from_path (arcs_in v) (reverse order) (point_at v.points k) q (neighbours.inner, neighbours.path, neighbours.through) in
         let here : joined k m ≡ true = h.joins k m lk lm mk ∙ ap (λ es. joined_of (arcs_in v) es (point_at v.points k) (point_at v.points m)) (before-whole (reverse order) (point_at v.points k) (point_at v.points m) fresh left) ∙ ap (joined_of (arcs_in v) (reverse order) (point_at v.points k)) is ∙ join in
         subst (λ x. is_in (points_where v.points test (length v.points)) x ≡ true) is (where_to v.points apart test (length v.points) m lm (λ t. stays t && here t))

@@ -6,7 +6,6 @@ use Rattle.stn_walk.specs.Eliminations.{is_in}
 use Rattle.dist_rows.specs.declared.cell.Cell.{Cell}
 use Rattle.dist_rows.specs.Cells.{IsLight, AllLight}
 use Rattle.dist_rows.specs.Matrix.{in_room, cell_at, room-from_cell, within-from_room}
-use Rattle.elim_step.specs.Blocks as blocks
 use Rattle.elim_step.specs.declared.summary.SummaryEntry.{SummaryEntry}
 use Rattle.elim_step.specs.Summaries.{is_summary}
 use Rattle.elim_step.specs.Eliminates.{remains}
@@ -39,15 +38,15 @@ pub record Turn (e : Inside) (n k : ℕ) (entries : List SummaryEntry) (size : �
   pub is : point_at e.local.points k ≡ point_at (order_of e) n
   pub square : size ≡ length e.local.points
   pub swept : IsSwept e.local (order_of e) entries (n + 1) at done
-  pub each : (m : ℕ) → blocks.is_in m later ≡ (remains done m && is_joined e.joins k m)
+  pub each : (m : ℕ) → is_in later m ≡ (remains done m && is_joined e.joins k m)
   pub rising : AllPairs (λ p q. p < q) later
-  pub below : (m : ℕ) → blocks.is_in m later ≡ true → m < e.joins.size
+  pub below : (m : ℕ) → is_in later m ≡ true → m < e.joins.size
 
 -- the lists under the two names that an answer has for them
 pub turn_of : (e : Inside) (n k : ℕ) (entries : List SummaryEntry) (size : ℕ) (at : ℕ → ℕ → Option Cell) (done done' : List Bool) (later later' : List ℕ)
     → IsUnderway e → n < length (order_of e) → k < length e.local.points → point_at e.local.points k ≡ point_at (order_of e) n → size ≡ length e.local.points
     → IsSwept e.local (order_of e) entries (n + 1) at done → done' ≡ done → later' ≡ later
-    → ((m : ℕ) → blocks.is_in m later ≡ (remains done' m && is_joined e.joins k m)) → AllPairs (λ p q. p < q) later → ((m : ℕ) → blocks.is_in m later ≡ true → m < e.joins.size)
+    → ((m : ℕ) → is_in later m ≡ (remains done' m && is_joined e.joins k m)) → AllPairs (λ p q. p < q) later → ((m : ℕ) → is_in later m ≡ true → m < e.joins.size)
     → Turn e n k entries size at done later'
 turn_of e n k entries size at done done' later later' underway number place is square swept same_done same_later each rising below = record {
   underway = underway;
@@ -56,39 +55,39 @@ turn_of e n k entries size at done done' later later' underway number place is s
   is = is;
   square = square;
   swept = swept;
-  each = λ m. ap (blocks.is_in m) same_later ∙ each m ∙ ap (λ d. remains d m && is_joined e.joins k m) same_done;
+  each = λ m. ap (λ xs. is_in xs m) same_later ∙ each m ∙ ap (λ d. remains d m && is_joined e.joins k m) same_done;
   rising = subst (AllPairs (λ p q. p < q)) (sym same_later) rising;
-  below = λ m h. below m (ap (blocks.is_in m) (sym same_later) ∙ h);
+  below = λ m h. below m (ap (λ xs. is_in xs m) (sym same_later) ∙ h);
 }
 
 module _ (e : Inside) (n k : ℕ) (entries : List SummaryEntry) (size : ℕ) (at : ℕ → ℕ → Option Cell) (done : List Bool) (later : List ℕ) (t : Turn e n k entries size at done later) where
-  within : (m : ℕ) → blocks.is_in m later ≡ true → m < length e.local.points
+  within : (m : ℕ) → is_in later m ≡ true → m < length e.local.points
   within m h = omega (arith, t.below m h, t.underway.joins_size)
 
   pub asks_within : k < e.rows.size
   asks_within = omega (arith, t.place, t.underway.square)
 
-  pub asks_all : (m : ℕ) → blocks.is_in m later ≡ true → (m < e.rows.size) × (m < size)
+  pub asks_all : (m : ℕ) → is_in later m ≡ true → (m < e.rows.size) × (m < size)
   asks_all m h = (omega (arith, within m h, t.underway.square), omega (arith, within m h, t.square))
 
   pub asks_some : 0 < length later
   asks_some =
       some_later e.local (order_of e) (rows_of e) (is_joined e.joins) e.remain.items t.underway.taken n k t.number t.place t.is entries at done t.swept later t.each within
 
-  pub asks_others : blocks.is_in k later ≡ false
+  pub asks_others : is_in later k ≡ false
   asks_others =
       not_later e.local (order_of e) (rows_of e) (is_joined e.joins) e.remain.items t.underway.taken n k t.number t.place t.is entries at done t.swept later t.each within
 
   pub asks_once : names_once later ≡ true
   asks_once = names_once-from_rising later t.rising
 
-  other : (j : ℕ) → blocks.is_in j later ≡ true → j ≢ k
+  other : (j : ℕ) → is_in later j ≡ true → j ≢ k
   other = later_other e.local (order_of e) (rows_of e) (is_joined e.joins) e.remain.items t.underway.taken n k t.number t.place t.is entries at done t.swept later t.each within
 
-  pub asks_out : (j : ℕ) → blocks.is_in j later ≡ true → in_room size k j ≡ true
+  pub asks_out : (j : ℕ) → is_in later j ≡ true → in_room size k j ≡ true
   asks_out j h = room-between size k j (omega (arith, t.place, t.square)) (asks_all j h).1 (λ same. other j h (sym same))
 
-  pub asks_back : (j : ℕ) → blocks.is_in j later ≡ true → in_room size j k ≡ true
+  pub asks_back : (j : ℕ) → is_in later j ≡ true → in_room size j k ≡ true
   asks_back j h = room-between size j k (asks_all j h).1 (omega (arith, t.place, t.square)) (other j h)
 
   pub asks_fresh : (j : ℕ) → (at k j ≡ None) × (at j k ≡ None)

@@ -21,7 +21,6 @@ use Rattle.stn_walk.proofs.Distances.{consistent_no_negative}
 use Rattle.dist_rows.specs.declared.cell.Cell.{Cell}
 use Rattle.dist_rows.specs.declared.cell.Via.TheVariants.{Given}
 use Rattle.dist_rows.specs.Cells.{IsLight, AllLight}
-use Rattle.elim_step.specs.Blocks as blocks
 use Rattle.elim_step.specs.declared.summary.SummaryEntry.{SummaryEntry}
 use Rattle.elim_step.specs.Eliminates.{remains, sum_through}
 use Rattle.elim_step.specs.Eliminated.{weight_at, point_at}
@@ -42,16 +41,16 @@ use Rattle.private_elim.proofs.OwnWalks.{from_private, to_private, least_from_pr
 use Rattle.private_elim.proofs.SweepParts.{points_apart, joined_in_order, order_joins, joined_turned, left, cut, fresh, in_front, left_private, here_private, none_left, cell_out, cell_back, join_out, cells_apart}
 
 -- what holds of the pairs that a revisit sets, and of all others, holds of all pairs
-by_pair : (k : ℕ) (later : List ℕ) (P : ℕ → ℕ → Type 0) → ((q : ℕ) → blocks.is_in q later ≡ true → P k q) → ((p : ℕ) → blocks.is_in p later ≡ true → P p k)
-    → ((p q : ℕ) → ((p == k) && blocks.is_in q later) ≡ false → ((q == k) && blocks.is_in p later) ≡ false → P p q) → (p q : ℕ) → P p q
+by_pair : (k : ℕ) (later : List ℕ) (P : ℕ → ℕ → Type 0) → ((q : ℕ) → is_in later q ≡ true → P k q) → ((p : ℕ) → is_in later p ≡ true → P p k)
+    → ((p q : ℕ) → ((p == k) && is_in later q) ≡ false → ((q == k) && is_in later p) ≡ false → P p q) → (p q : ℕ) → P p q
 by_pair k later P out back others p q =
-    elim ((p == k) && blocks.is_in q later) as (λ b. ((p == k) && blocks.is_in q later) ≡ b → P p q) [
+    elim ((p == k) && is_in later q) as (λ b. ((p == k) && is_in later q) ≡ b → P p q) [
       | true ↦ λ s.
-          let both = and_parts (p == k) (blocks.is_in q later) s in
+          let both = and_parts (p == k) (is_in later q) s in
           subst (λ x. P x q) (sym (eqb-true p k both.0)) (out q both.1)
-      | false ↦ λ s. elim ((q == k) && blocks.is_in p later) as (λ b. ((q == k) && blocks.is_in p later) ≡ b → P p q) [
+      | false ↦ λ s. elim ((q == k) && is_in later p) as (λ b. ((q == k) && is_in later p) ≡ b → P p q) [
         | true ↦ λ r.
-            let both = and_parts (q == k) (blocks.is_in p later) r in
+            let both = and_parts (q == k) (is_in later p) r in
             subst (λ x. P p x) (sym (eqb-true q k both.0)) (back p both.1)
         | false ↦ λ r. others p q s r
       ] refl
@@ -87,7 +86,7 @@ done_more done k p lk h =
 module _ (v : LocalView) (order : List ℕ) (f : ℕ → ℕ → Option Cell) (joined : ℕ → ℕ → Bool) (remain : List Bool) (t : IsTaken v order f joined remain)
     (n k : ℕ) (lt : n < length order) (lk : k < length v.points) (is : point_at v.points k ≡ point_at order n)
     (entries : List SummaryEntry) (at : ℕ → ℕ → Option Cell) (done : List Bool) (s : IsSwept v order entries (n + 1) at done)
-    (later : List ℕ) (each : (m : ℕ) → blocks.is_in m later ≡ (remains done m && joined k m)) (within : (m : ℕ) → blocks.is_in m later ≡ true → m < length v.points) where
+    (later : List ℕ) (each : (m : ℕ) → is_in later m ≡ (remains done m && joined k m)) (within : (m : ℕ) → is_in later m ≡ true → m < length v.points) where
   -- the points before k
   abbrev before : List ℕ
   before = left v order f joined remain t n k lt lk is
@@ -110,20 +109,20 @@ module _ (v : LocalView) (order : List ℕ) (f : ℕ → ℕ → Option Cell) (j
   other_points m lm other e = other (points_apart v order f joined remain t m k lm lk e)
 
   -- a later place is done and joined with k
-  later_done : (m : ℕ) → blocks.is_in m later ≡ true → (remains done m ≡ true) × (joined k m ≡ true)
+  later_done : (m : ℕ) → is_in later m ≡ true → (remains done m ≡ true) × (joined k m ≡ true)
   later_done m h = and_parts (remains done m) (joined k m) (sym (each m) ∙ h)
 
-  pub later_other : (m : ℕ) → blocks.is_in m later ≡ true → m ≢ k
+  pub later_other : (m : ℕ) → is_in later m ≡ true → m ≢ k
   later_other m h e = false≢true (sym not_done ∙ ap (remains done) (sym e) ∙ (later_done m h).0)
 
   outside_left : (m : ℕ) → m < length v.points → m ≢ k → is_in (point_at v.points k ∷ before) (point_at v.points m) ≡ is_in before (point_at v.points m)
   outside_left m lm other = in-rest (point_at v.points k) before (point_at v.points m) (other_points m lm other)
 
-  later_left : (m : ℕ) → blocks.is_in m later ≡ true → is_in before (point_at v.points m) ≡ false
+  later_left : (m : ℕ) → is_in later m ≡ true → is_in before (point_at v.points m) ≡ false
   later_left m h = sym (outside_left m (within m h) (later_other m h)) ∙ done_outside m (within m h) (later_done m h).0
 
   -- later places are joined with one another
-  later_joined : (m j : ℕ) → blocks.is_in m later ≡ true → blocks.is_in j later ≡ true → m ≢ j → IsJoined (arcs_in v) order (point_at v.points m) (point_at v.points j)
+  later_joined : (m j : ℕ) → is_in later m ≡ true → is_in later j ≡ true → m ≢ j → IsJoined (arcs_in v) order (point_at v.points m) (point_at v.points j)
   later_joined m j first second apart =
       let x = point_at v.points m in
       let y = point_at v.points j in
@@ -144,7 +143,7 @@ module _ (v : LocalView) (order : List ℕ) (f : ℕ → ℕ → Option Cell) (j
       ∙ before-behind (reverse (drop (n + 1) order)) (z ∷ before) x y (done_outside m lm (later_done m first).0) (done_outside j lj (later_done j second).0) p h) through)
 
   -- z is one of them
-  z_later : blocks.is_in 0 later ≡ true
+  z_later : is_in later 0 ≡ true
   z_later =
       let some = some_point v t.known in
       let here = here_private v order f joined remain t n k lt lk is in
@@ -166,11 +165,11 @@ module _ (v : LocalView) (order : List ℕ) (f : ℕ → ℕ → Option Cell) (j
   -- so there is one, and it is not k
   pub some_later : 0 < length later
   some_later = some later z_later where
-    some : (xs : List ℕ) → blocks.is_in 0 xs ≡ true → 0 < length xs
+    some : (xs : List ℕ) → is_in xs 0 ≡ true → 0 < length xs
     some [] h = absurd (false≢true h)
     some (x ∷ xs) h = omega arith
 
-  pub not_later : blocks.is_in k later ≡ false
+  pub not_later : is_in later k ≡ false
   not_later = each k ∙ ap (λ b. b && joined k k) not_done
 
   -- no cell stands between k and a place yet
@@ -215,7 +214,7 @@ module _ (v : LocalView) (order : List ℕ) (f : ℕ → ℕ → Option Cell) (j
         (subst (IsInnerLeast (is_in before) (arcs_in v) (point_at v.points m) (point_at v.points k)) (sym (cell_back v order f joined remain t n k lt lk is m lm other out))
         (cell-least (arcs_in v) before (none_left v order f joined remain t n k lt lk is) (point_at v.points m) (point_at v.points k)))
 
-    not_joined : (m : ℕ) → m < length v.points → is_in before (point_at v.points m) ≡ false → m ≢ k → blocks.is_in m later ≡ false → joined k m ≡ false
+    not_joined : (m : ℕ) → m < length v.points → is_in before (point_at v.points m) ≡ false → m ≢ k → is_in later m ≡ false → joined k m ≡ false
     not_joined m lm out other none =
         let is_done = outside_done m lm (outside_left m lm other ∙ out) in
         ap (λ b. b && joined k m) (sym is_done) ∙ sym (each m) ∙ none
@@ -290,7 +289,7 @@ module _ (v : LocalView) (order : List ℕ) (f : ℕ → ℕ → Option Cell) (j
         (λ m. sum_light m bound 4503599627370496 (reach_of at p m) (f m k) (reach_light at bound p m (s.light p m)) (rows_light m k)) (r.back p h)))
         (λ p q no_out no_back. subst (λ o. IfSome o (λ c. nat_abs c.weight ≤ more)) (sym (r.others p q no_out no_back)) (weaker bound more (at p q) (omega arith) (s.light p q)))
 
-    is_later : (q : ℕ) → q < length v.points → q ≢ k → remains (set done k true) q ≡ true → joined k q ≡ true → blocks.is_in q later ≡ true
+    is_later : (q : ℕ) → q < length v.points → q ≢ k → remains (set done k true) q ≡ true → joined k q ≡ true → is_in later q ≡ true
     is_later q lq other is_done joins = each q ∙ and_from (remains done q) (joined k q) (was_done q other is_done) joins
 
     least_more : (net : Net) → IsNetwork net → HasPart net v → HoldsFinals net v.agent entries
@@ -309,11 +308,11 @@ module _ (v : LocalView) (order : List ℕ) (f : ℕ → ℕ → Option Cell) (j
         let p_other : p ≢ k = λ same. (
         let q_other : q ≢ k = λ g. both.0 (same ∙ sym g) in
         let h = is_later q lq q_other done_q (ap (λ x. joined x q) (sym same) ∙ both.1) in
-        false≢true (sym no_out ∙ ap (λ b. b && blocks.is_in q later) (eq-eqb p k same) ∙ h)) in
+        false≢true (sym no_out ∙ ap (λ b. b && is_in later q) (eq-eqb p k same) ∙ h)) in
         let q_other : q ≢ k = λ same. (
         let turned = joined_turned v order f joined remain t p q lp lq both.0 in
         let h = is_later p lp p_other done_p (ap (λ x. joined x p) (sym same) ∙ sym turned ∙ both.1) in
-        false≢true (sym no_back ∙ ap (λ b. b && blocks.is_in p later) (eq-eqb q k same) ∙ h)) in
+        false≢true (sym no_back ∙ ap (λ b. b && is_in later p) (eq-eqb q k same) ∙ h)) in
         subst (λ o. IsInnerLeast every (arcs_of net) (point_at v.points p) (point_at v.points q) (weight_at o)) (sym (r.others p q no_out no_back))
         (s.least net valid part holds p q lp lq (was_done p p_other done_p) (was_done q q_other done_q) joins))
 

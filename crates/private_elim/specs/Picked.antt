@@ -1,4 +1,4 @@
--- The order in which a picker takes private points: IsMet, IsDegree, AreCandidates, IsPicked, ArePicked, IsStopped. The points taken are listed
+-- The order in which a picker takes private points: IsNeighbour, IsDegree, AreCandidates, IsPicked, ArePicked, IsStopped. The points taken are listed
 -- with the last one first.
 use Rattle.std.specs.Prelude.{◌≡◌, ◌≢◌, ◌↔◌, ℕ, List, [], ◌∷◌, true, false, ◌&&◌, not, Some, length, map, filter, ⊤}
 use Rattle.std.specs.List.{AllByRecursion}
@@ -11,7 +11,7 @@ use Rattle.private_elim.specs.Locals.{LocalView, arcs_in, is_private_in, is_poin
 use Rattle.private_elim.specs.Taken.{StopsAt}
 
 -- q is another point of the local problem that is not taken, and arcs, taken without direction, join it with p through taken points
-pub record IsMet (v : LocalView) (taken : List ℕ) (p q : ℕ) : Type 0 where
+pub record IsNeighbour (v : LocalView) (taken : List ℕ) (p q : ℕ) : Type 0 where
   pub point : is_point_of v q ≡ true
   pub left : is_in taken q ≡ false
   pub other : q ≢ p
@@ -21,10 +21,10 @@ pub record IsMet (v : LocalView) (taken : List ℕ) (p q : ℕ) : Type 0 where
 
 -- the number of these points
 pub record IsDegree (v : LocalView) (taken : List ℕ) (p degree : ℕ) : Type 0 where
-  pub met : List ℕ
-  pub once : AllDifferent met
-  pub each : (q : ℕ) → is_in met q ≡ true ↔ IsMet v taken p q
-  pub many : length met ≡ degree
+  pub neighbours : List ℕ
+  pub once : AllDifferent neighbours
+  pub each : (q : ℕ) → is_in neighbours q ≡ true ↔ IsNeighbour v taken p q
+  pub many : length neighbours ≡ degree
 
 -- the candidates are the private points that are not taken, by number, with their degrees
 pub record AreCandidates (v : LocalView) (taken : List ℕ) (candidates : List Candidate) : Type 0 where

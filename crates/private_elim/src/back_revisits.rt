@@ -50,7 +50,7 @@ impl Elimination {
         ensures swept { OnOk result (IsSwept self.now.local self.now.order entries n (cell_at finals.new.size finals.new.slots.items) done.new.items) }
     {
         let place = self.place_taken(n);
-        let later = self.joins.met(alloc, place, done)?;
+        let later = self.joins.neighbours(alloc, place, done)?;
         revisit_point(&self.rows, finals, place, &later, steps);
         done[place as usize] = true;
         Ok(())

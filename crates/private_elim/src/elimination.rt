@@ -5,7 +5,6 @@ ghost use Rattle.stn_model.specs.Walks as walks;
 ghost use Rattle.stn_walk.specs.Eliminations.{is_in, before_both};
 ghost use Rattle.stn_walk.specs.Joins.{joined_of};
 ghost use Rattle.elim_step.specs.Eliminated.{forward_of, point_at, weight_at};
-ghost use Rattle.elim_step.specs.Blocks.{is_in as is_in_block};
 ghost use Rattle.private_elim.specs.Degrees.{degree_of};
 ghost use Rattle.private_elim.specs.Locals.{arcs_in, is_private_in, all_numbered, is_point_of};
 ghost use Rattle.private_elim.specs.Taken.{TakenView, StopsAt, HasTaken};
@@ -61,18 +60,18 @@ impl Elimination {
         ensures err { OnErr result (self.new ≡ self.old) }
     {
         let point = self.local.point(place);
-        let met = self.joins.met(alloc, place, self.remain.as_slice())?;
+        let neighbours = self.joins.neighbours(alloc, place, self.remain.as_slice())?;
         self.order.reserve(1)?;
         match eliminate_point(&mut self.rows, place, self.remain.as_slice(), steps)? {
             Found::Negative(other) => Ok(Some(other)),
             Found::Clear => {
-                self.joins.join_all(met.as_slice());
+                self.joins.join_all(neighbours.as_slice());
                 self.remain[place as usize] = false;
                 recount(
                     &mut self.degrees,
                     &self.joins,
                     self.remain.as_slice(),
-                    met.as_slice(),
+                    neighbours.as_slice(),
                 );
                 self.order.push_reserved(point);
                 Ok(None)
@@ -157,9 +156,9 @@ fn weight_of(cell: Option<Cell>) -> Option<i128>
 fn recount(degrees: &mut Vec<u32>, joins: &Joins, remain: &[bool], places: &[u32])
     requires len { length degrees.old.items ≡ joins.now.size }
     requires remain_len { length remain.now ≡ joins.now.size }
-    requires within { (p : ℕ) → is_in_block p places.now ≡ true → p < joins.now.size }
+    requires within { (p : ℕ) → is_in places.now p ≡ true → p < joins.now.size }
     ensures len { length degrees.new.items ≡ length degrees.old.items }
-    ensures each { (p : ℕ) → slice_index_or degrees.new.items p 0 ≡ (if is_in_block p places.now then degree_of remain.now joins.now p else slice_index_or degrees.old.items p 0) }
+    ensures each { (p : ℕ) → slice_index_or degrees.new.items p 0 ≡ (if is_in places.now p then degree_of remain.now joins.now p else slice_index_or degrees.old.items p 0) }
 {
     for &p in places {
         degrees[p as usize] = joins.count(p, remain);

@@ -1,8 +1,9 @@
 use Rattle.std.proofs.Common.{ℕ, Bool, ◌&&◌, ap, ◌∙◌, arith, rules, take, get_or, ◌+◌}
 use Rattle.std.specs.Prelude.{◌==◌}
-use Rattle.elim_step.specs.Blocks.{is_in}
-use Rattle.elim_step.proofs.Lists.{is_in-at, is_in-take, is_in-apart}
-use Rattle.elim_step.proofs.Regions.{region-join, and-false, and-or-left, front-more}
+use Rattle.stn_walk.specs.Eliminations.{is_in}
+use Rattle.stn_walk.proofs.Members.{is_in-next, is_in-at, is_in-take, is_in-apart}
+use Rattle.std.proofs.Math.Bool.{and-false}
+use Rattle.elim_step.proofs.Regions.{region-join, and-or-left}
 use Rattle.elim_step.proofs.lower.lower_pairs.Goals as goal
 
 pub lower_row-requires-clause-within : goal.lower_row-requires-clause-within
@@ -12,7 +13,7 @@ lower_row-requires-clause-within g c =
 pub lower_row-requires-clause-apart : goal.lower_row-requires-clause-apart
 lower_row-requires-clause-apart g c =
     let ns = c.args.places.now in
-    is_in-apart (get_or ns c.loop-i.i-index 0) c.args.k ns (is_in-at ns c.loop-i.i-index (search rules)) c.requires.away
+    is_in-apart ns (get_or ns c.loop-i.i-index 0) c.args.k (is_in-at ns c.loop-i.i-index (search rules)) c.requires.away
 
 pub lower_row-requires-clause-room : goal.lower_row-requires-clause-room
 lower_row-requires-clause-room g c =
@@ -29,14 +30,14 @@ loop-i-preserved g c =
     let k = c.args.k in
     let was = c.loop-i.invariant in
     let now = c.lower_row.ensures in
-    let D : ℕ → ℕ → Bool = λ a b. is_in a (take n ns) && is_in b js in
-    let E : ℕ → ℕ → Bool = λ a b. (a == i) && is_in b js in
-    let F : ℕ → ℕ → Bool = λ a b. is_in a (take (n + 1) ns) && is_in b js in
+    let D : ℕ → ℕ → Bool = λ a b. is_in (take n ns) a && is_in js b in
+    let E : ℕ → ℕ → Bool = λ a b. (a == i) && is_in js b in
+    let F : ℕ → ℕ → Bool = λ a b. is_in (take (n + 1) ns) a && is_in js b in
     record {
       cells = region-join k D E F (g.R.Rows.at c.args.rows.now) (g.R.Rows.at c.loop-i.rows) (g.R.Rows.at c.lower_row.new.rows) was.cells now.cells
-          (λ p. ap (λ z. is_in p (take n ns) && z) c.requires.others_away ∙ and-false (is_in p (take n ns)))
-          (λ q. ap (λ z. z && is_in q js) (is_in-take k ns n c.requires.away))
-          (λ p q. and-or-left (is_in p (take n ns)) (is_in q js) (p == i) ∙ ap (λ z. z && is_in q js) (front-more p ns n (search rules)));
+          (λ p. ap (λ z. is_in (take n ns) p && z) c.requires.others_away ∙ and-false (is_in (take n ns) p))
+          (λ q. ap (λ z. z && is_in js q) (is_in-take ns n k c.requires.away))
+          (λ p q. and-or-left (is_in (take n ns) p) (is_in js q) (p == i) ∙ ap (λ z. z && is_in js q) (is_in-next ns n p (search rules)));
       room = λ p q. now.room p q ∙ was.room p q;
       places = now.places ∙ was.places;
       roomy = now.roomy ∙ was.roomy;

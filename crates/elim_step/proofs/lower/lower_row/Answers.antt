@@ -1,14 +1,19 @@
 use Rattle.std.proofs.Common.{◌≡◌, ℕ, Bool, false, ◌&&◌, ap, ◌∙◌, arith, rules, take, get_or, ◌+◌}
 use Rattle.std.specs.Prelude.{◌==◌}
 use Rattle.std.proofs.lemmas.Bool.Decides.{nat_tests}
-use Rattle.elim_step.specs.Blocks.{is_in}
-use Rattle.elim_step.proofs.Lists.{is_in-at, is_in-take}
-use Rattle.elim_step.proofs.Regions.{region-join, and-false, and-or-right, front-more}
+use Rattle.stn_walk.specs.Eliminations.{is_in}
+use Rattle.stn_walk.proofs.Members.{is_in-next, is_in-at, is_in-take}
+use Rattle.std.proofs.Math.Bool.{and-false}
+use Rattle.elim_step.proofs.Regions.{region-join, and-or-right}
 use Rattle.elim_step.proofs.lower.lower_row.Goals as goal
 
 pub lower_pair-requires-clause-within : goal.lower_pair-requires-clause-within
 lower_pair-requires-clause-within g c =
-    rw c.loop-j.invariant.places (c.requires.within.0, c.requires.within.1, c.requires.all_within _ (is_in-at c.args.others.now c.loop-j.j-index (search rules)))
+    rw c.loop-j.invariant.places (
+      c.requires.within.0,
+      c.requires.within.1,
+      c.requires.all_within _ (is_in-at c.args.others.now c.loop-j.j-index (search rules)),
+    )
 
 pub lower_pair-requires-clause-room : goal.lower_pair-requires-clause-room
 lower_pair-requires-clause-room g c =
@@ -25,15 +30,15 @@ loop-j-preserved g c =
     let i = c.args.i in
     let was = c.loop-j.invariant in
     let now = c.lower_pair.ensures in
-    let D : ℕ → ℕ → Bool = λ a b. (a == i) && is_in b (take n js) in
+    let D : ℕ → ℕ → Bool = λ a b. (a == i) && is_in (take n js) b in
     let E : ℕ → ℕ → Bool = λ a b. (a == i) && (b == j) in
-    let F : ℕ → ℕ → Bool = λ a b. (a == i) && is_in b (take (n + 1) js) in
+    let F : ℕ → ℕ → Bool = λ a b. (a == i) && is_in (take (n + 1) js) b in
     let apart : (k == i) ≡ false = (let e = c.requires.apart in grind (arith, nat_tests)) in
     record {
       cells = region-join k D E F (g.R.Rows.at c.args.rows.now) (g.R.Rows.at c.loop-j.rows) (g.R.Rows.at c.lower_pair.new.rows) was.cells now.cells
-          (λ p. ap (λ z. (p == i) && z) (is_in-take k js n c.requires.away) ∙ and-false (p == i))
-          (λ q. ap (λ z. z && is_in q (take n js)) apart)
-          (λ p q. and-or-right (p == i) (is_in q (take n js)) (q == j) ∙ ap (λ z. (p == i) && z) (front-more q js n (search rules)));
+          (λ p. ap (λ z. (p == i) && z) (is_in-take js n k c.requires.away) ∙ and-false (p == i))
+          (λ q. ap (λ z. z && is_in (take n js) q) apart)
+          (λ p q. and-or-right (p == i) (is_in (take n js) q) (q == j) ∙ ap (λ z. (p == i) && z) (is_in-next js n q (search rules)));
       room = λ p q. now.room p q ∙ was.room p q;
       places = now.places ∙ was.places;
       roomy = now.roomy ∙ was.roomy;

@@ -1,11 +1,11 @@
 use Rattle.std.specs.Prelude.{◌≡◌, ℕ, ◌+◌, ◌&&◌, ◌==◌, take}
-use Rattle.elim_step.specs.Blocks.{is_in}
+use Rattle.stn_walk.specs.Eliminations.{is_in}
 use Rattle.elim_step.specs.Regions.{region_after}
 use Rattle.elim_step.proofs.lower.lower_row.Given as goal
 
 abbrev pub invariant-loop-j : goal.invariant-loop-j
 invariant-loop-j g l = record {
-  cells : (p q : ℕ) → g.R.Rows.at l.rows p q ≡ region_after l.k (λ a b. (a == l.i) && is_in b (take l.j-index l.others)) (g.R.Rows.at l.initial.rows) p q;
+  cells : (p q : ℕ) → g.R.Rows.at l.rows p q ≡ region_after l.k (λ a b. (a == l.i) && is_in (take l.j-index l.others) b) (g.R.Rows.at l.initial.rows) p q;
   room : (p q : ℕ) → g.R.Rows.has_room l.rows p q ≡ g.R.Rows.has_room l.initial.rows p q;
   places : g.R.Rows.places l.rows ≡ g.R.Rows.places l.initial.rows;
   roomy : g.R.Rows.is_roomy l.rows ≡ g.R.Rows.is_roomy l.initial.rows;

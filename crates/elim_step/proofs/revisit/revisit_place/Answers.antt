@@ -1,7 +1,7 @@
 use Rattle.std.proofs.Common.{ap, sym, ◌∙◌, arith, rules, take, get_or}
 use Rattle.std.proofs.lemmas.List.{take_more}
 use Rattle.elim_step.specs.Revisits.{through_after, place_after}
-use Rattle.elim_step.proofs.Lists.{is_in-at, is_in-apart}
+use Rattle.stn_walk.proofs.Members.{is_in-at, is_in-apart}
 use Rattle.elim_step.proofs.Revisits.{place-more, place-stays}
 use Rattle.elim_step.proofs.revisit.revisit_place.Goals as goal
 
@@ -22,8 +22,9 @@ revisit_through-requires-clause-onward g c =
     let m = get_or ns n 0 in
     let k = c.args.k in
     let j = c.args.j in
-    let away = is_in-apart m k ns (is_in-at ns n (search rules)) c.requires.others in
-    rw (c.loop-m.invariant.cells m j, place-stays (g.R.Rows.at c.args.forward.now) k j (take n ns) (g.R.Rows.at c.args.finals.now) m j away c.requires.apart) (c.requires.finals m j away c.requires.apart)
+    let away = is_in-apart ns m k (is_in-at ns n (search rules)) c.requires.others in
+    rw (c.loop-m.invariant.cells m j, place-stays (g.R.Rows.at c.args.forward.now) k j (take n ns) (g.R.Rows.at c.args.finals.now) m j away c.requires.apart)
+    (c.requires.finals m j away c.requires.apart)
 
 pub revisit_through-requires-clause-hither : goal.revisit_through-requires-clause-hither
 revisit_through-requires-clause-hither g c =
@@ -32,8 +33,9 @@ revisit_through-requires-clause-hither g c =
     let m = get_or ns n 0 in
     let k = c.args.k in
     let j = c.args.j in
-    let away = is_in-apart m k ns (is_in-at ns n (search rules)) c.requires.others in
-    rw (c.loop-m.invariant.cells j m, place-stays (g.R.Rows.at c.args.forward.now) k j (take n ns) (g.R.Rows.at c.args.finals.now) j m c.requires.apart away) (c.requires.finals j m c.requires.apart away)
+    let away = is_in-apart ns m k (is_in-at ns n (search rules)) c.requires.others in
+    rw (c.loop-m.invariant.cells j m, place-stays (g.R.Rows.at c.args.forward.now) k j (take n ns) (g.R.Rows.at c.args.finals.now) j m c.requires.apart away)
+    (c.requires.finals j m c.requires.apart away)
 
 pub loop-m-preserved : goal.loop-m-preserved
 loop-m-preserved g c =
@@ -46,7 +48,7 @@ loop-m-preserved g c =
     let f = g.R.Rows.at c.args.finals.now in
     let was = c.loop-m.invariant in
     let now = c.revisit_through.ensures in
-    let away = is_in-apart m k ns (is_in-at ns n (search rules)) c.requires.others in
+    let away = is_in-apart ns m k (is_in-at ns n (search rules)) c.requires.others in
     record {
       cells = λ p q.
           now.cells p q ∙ (λ t. through_after fw k j m (λ a b. was.cells a b t) p q)

@@ -1,5 +1,5 @@
 use Rattle.std.proofs.Common.{◌≡◌, ◌∙◌, rules, true}
-use Rattle.elim_step.proofs.Lists.{is_in-at, push-cases}
+use Rattle.stn_walk.proofs.Members.{is_in-at, is_in-cases}
 use Rattle.elim_step.proofs.room.make_room_pairs.Goals as goal
 
 pub make_room_row-requires-clause-within : goal.make_room_row-requires-clause-within
@@ -16,7 +16,7 @@ loop-i-preserved g c =
       cells = λ p q. now.cells p q ∙ was.cells p q;
       places = now.places ∙ was.places;
       roomy = now.roomy ∙ was.roomy;
-      room = λ i j here at_j apart. push-cases {P = g.R.Rows.has_room c.make_room_row.new.rows i j ≡ true} i ns n (search rules) here
+      room = λ i j here at_j apart. is_in-cases {P = g.R.Rows.has_room c.make_room_row.new.rows i j ≡ true} i ns n (search rules) here
           (λ h. now.other_room i j (was.room i j h at_j apart))
           (λ e. rw e (now.room j at_j (λ h. apart (e ∙ h))));
       other_room = λ p q h. now.other_room p q (was.other_room p q h);

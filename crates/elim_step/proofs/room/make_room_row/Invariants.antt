@@ -1,5 +1,5 @@
 use Rattle.std.specs.Prelude.{◌≡◌, ◌≢◌, ℕ, true, take}
-use Rattle.elim_step.specs.Blocks.{is_in}
+use Rattle.stn_walk.specs.Eliminations.{is_in}
 use Rattle.elim_step.proofs.room.make_room_row.Given as goal
 
 abbrev pub invariant-loop-j : goal.invariant-loop-j
@@ -7,6 +7,6 @@ invariant-loop-j g l = record {
   cells : (p q : ℕ) → g.R.Rows.at l.rows p q ≡ g.R.Rows.at l.initial.rows p q;
   places : g.R.Rows.places l.rows ≡ g.R.Rows.places l.initial.rows;
   roomy : g.R.Rows.is_roomy l.rows ≡ g.R.Rows.is_roomy l.initial.rows;
-  room : (j : ℕ) → is_in j (take l.j-index l.others) ≡ true → l.i ≢ j → g.R.Rows.has_room l.rows l.i j ≡ true;
+  room : (j : ℕ) → is_in (take l.j-index l.others) j ≡ true → l.i ≢ j → g.R.Rows.has_room l.rows l.i j ≡ true;
   other_room : (p q : ℕ) → g.R.Rows.has_room l.initial.rows p q ≡ true → g.R.Rows.has_room l.rows p q ≡ true;
 }

@@ -1,6 +1,6 @@
 use Rattle.std.proofs.Common.{◌≡◌, ◌≤◌, false, arith, get_or, ◌+◌, sym, ◌∙◌}
-use Rattle.elim_step.specs.Eliminates.{is_met}
-use Rattle.elim_step.proofs.Blocks.{met-false, met-here, below-more, count_below-gap, count-step, count-le}
+use Rattle.elim_step.specs.Eliminates.{is_neighbour}
+use Rattle.elim_step.proofs.Blocks.{neighbour-false, neighbour-here, below-more, count_below-gap, count-step, count-le}
 use Rattle.elim_step.proofs.step.first_negative.Goals as goal
 
 pub returns-then-looks_below-clause-most : goal.returns-then-looks_below-clause-most
@@ -9,9 +9,11 @@ returns-then-looks_below-clause-most g c =
     let remain = c.args.remain.now in
     let k = c.args.k in
     let n = c.in-Some.n in
-    let test = is_met remain f k in
-    let met : test n ≡ get_or remain n false = met-here remain f k n c.in-Some.ensures.some.2 in
-    let step = count-step test c.loop-n.from n (get_or remain n false) c.in-Some.ensures.some.0 met (λ m low h. met-false remain f k m (c.in-Some.ensures.least m low h)) in
+    let test = is_neighbour remain f k in
+    let neighbours : test n ≡ get_or remain n false = neighbour-here remain f k n c.in-Some.ensures.some.2 in
+    let step =
+    count-step test c.loop-n.from n (get_or remain n false) c.in-Some.ensures.some.0 neighbours
+    (λ m low h. neighbour-false remain f k m (c.in-Some.ensures.least m low h)) in
     let low : n + 1 ≤ g.R.Rows.places c.args.rows.now = (let l = c.in-Some.ensures.some.1 in omega arith) in
     let most = count-le test (n + 1) (g.R.Rows.places c.args.rows.now) low in
     let was = c.loop-n.invariant.steps in
@@ -24,9 +26,11 @@ loop-n-preserved g c =
     let remain = c.args.remain.now in
     let k = c.args.k in
     let n = c.in-Some.n in
-    let test = is_met remain f k in
-    let met : test n ≡ get_or remain n false = met-here remain f k n c.in-Some.ensures.some.2 in
-    let step = count-step test c.loop-n.from n (get_or remain n false) c.in-Some.ensures.some.0 met (λ m low h. met-false remain f k m (c.in-Some.ensures.least m low h)) in
+    let test = is_neighbour remain f k in
+    let neighbours : test n ≡ get_or remain n false = neighbour-here remain f k n c.in-Some.ensures.some.2 in
+    let step =
+    count-step test c.loop-n.from n (get_or remain n false) c.in-Some.ensures.some.0 neighbours
+    (λ m low h. neighbour-false remain f k m (c.in-Some.ensures.least m low h)) in
     let was = c.loop-n.invariant in
     let now = c.looks_below.ensures in
     record {
@@ -40,12 +44,16 @@ returns-clause-each g c =
     let f = g.R.Rows.at c.args.rows.now in
     let remain = c.args.remain.now in
     let k = c.args.k in
-    let gap = count_below-gap (is_met remain f k) c.loop-n.from (g.R.Rows.places c.args.rows.now) c.loop-n.invariant.within (λ m low h. met-false remain f k m (c.in_default.ensures.none m low)) in
+    let gap =
+    count_below-gap (is_neighbour remain f k) c.loop-n.from (g.R.Rows.places c.args.rows.now) c.loop-n.invariant.within
+    (λ m low h. neighbour-false remain f k m (c.in_default.ensures.none m low)) in
     let was = c.loop-n.invariant.steps in
     omega arith
 
 pub returns-clause-most : goal.returns-clause-most
 returns-clause-most g c =
-    let most = count-le (is_met c.args.remain.now (g.R.Rows.at c.args.rows.now) c.args.k) c.loop-n.from (g.R.Rows.places c.args.rows.now) c.loop-n.invariant.within in
+    let most =
+    count-le (is_neighbour c.args.remain.now (g.R.Rows.at c.args.rows.now) c.args.k) c.loop-n.from
+    (g.R.Rows.places c.args.rows.now) c.loop-n.invariant.within in
     let was = c.loop-n.invariant.steps in
     omega arith

@@ -1,12 +1,12 @@
 use Rattle.std.specs.Prelude.{◌≡◌, ℕ, ◌+◌, ◌-◌, ◌<◌, ◌≤◌, false}
-use Rattle.elim_step.specs.Eliminates.{is_below, is_met, count_below}
+use Rattle.elim_step.specs.Eliminates.{is_below, is_neighbour, count_below}
 use Rattle.elim_step.proofs.step.first_negative.Given as goal
 
 abbrev pub invariant-loop-n : goal.invariant-loop-n
 invariant-loop-n g l = record {
   none : (m : ℕ) → m < l.from → is_below l.remain (g.R.Rows.at l.rows) l.k m ≡ false;
   within : l.from ≤ g.R.Rows.places l.rows;
-  steps : l.steps ≡ l.initial.steps + count_below (is_met l.remain (g.R.Rows.at l.rows) l.k) l.from;
+  steps : l.steps ≡ l.initial.steps + count_below (is_neighbour l.remain (g.R.Rows.at l.rows) l.k) l.from;
 }
 
 abbrev pub decreases-loop-n : goal.decreases-loop-n

@@ -1,5 +1,5 @@
 use Rattle.std.proofs.Common.{◌≡◌, rules, None}
-use Rattle.elim_step.proofs.Lists.{is_in-at, push-cases}
+use Rattle.stn_walk.proofs.Members.{is_in-at, is_in-cases}
 use Rattle.elim_step.proofs.tests.is_apart.Goals as goal
 
 pub is_free-requires : goal.is_free-requires
@@ -9,6 +9,6 @@ pub loop-j-preserved : goal.loop-j-preserved
 loop-j-preserved g c =
     let f = g.R.Rows.at c.args.rows.now in
     let k = c.args.k in
-    λ j here. push-cases {P = (f k j ≡ None) × (f j k ≡ None)} j c.args.later.now c.loop-j.j-index (search rules) here
+    λ j here. is_in-cases {P = (f k j ≡ None) × (f j k ≡ None)} j c.args.later.now c.loop-j.j-index (search rules) here
     (c.loop-j.invariant j)
     (λ e. rw e (c.is_free.ensures (search rules)))

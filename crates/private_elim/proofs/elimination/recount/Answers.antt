@@ -1,8 +1,8 @@
 use Rattle.std.proofs.Common.{ap, ◌∙◌, rules, arith, get_or, set, length-set}
 use Rattle.std.specs.Prelude.{if◌then◌else◌}
 use Rattle.std.proofs.lemmas.List.{take_all}
-use Rattle.elim_step.specs.Blocks.{is_in}
-use Rattle.elim_step.proofs.Lists.{is_in-at}
+use Rattle.stn_walk.specs.Eliminations.{is_in}
+use Rattle.stn_walk.proofs.Members.{is_in-at}
 use Rattle.private_elim.specs.Degrees.{degree_of}
 use Rattle.private_elim.proofs.Counts.{recounted}
 use Rattle.private_elim.proofs.elimination.recount.Goals as goal
@@ -33,5 +33,5 @@ loop-p-preserved c =
 
 pub returns-clause-each : goal.returns-clause-each
 returns-clause-each c p =
-    c.loop-p.invariant.each p ∙ ap (λ xs. if is_in p xs then degree_of c.args.remain.now c.args.joins.now p else get_or c.args.degrees.now.items p 0)
+    c.loop-p.invariant.each p ∙ ap (λ xs. if is_in xs p then degree_of c.args.remain.now c.args.joins.now p else get_or c.args.degrees.now.items p 0)
     (take_all c.loop-p.p-index c.args.places.now (search rules))

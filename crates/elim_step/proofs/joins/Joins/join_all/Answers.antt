@@ -1,17 +1,16 @@
 use Rattle.std.proofs.Common.{◌≡◌, ◌&&◌, ◌||◌, not, ◌==◌, ap, ◌∙◌, rules, take, get_or}
 use Rattle.std.proofs.lemmas.List.{take_all}
-use Rattle.elim_step.specs.Blocks.{is_in}
+use Rattle.stn_walk.specs.Eliminations.{is_in}
 use Rattle.elim_step.specs.JoinedPlaces.{is_joined}
-use Rattle.elim_step.proofs.Lists.{is_in-at}
-use Rattle.elim_step.proofs.Regions.{front-more}
-use Rattle.elim_step.proofs.JoinWrites.{is_in-front, one-place, pairs-more}
+use Rattle.stn_walk.proofs.Members.{is_in-next, is_in-at, is_in-prefix}
+use Rattle.elim_step.proofs.JoinWrites.{one-place, pairs-more}
 use Rattle.elim_step.proofs.joins.Joins.join_all.Goals as goal
 
 pub join_row-requires-clause-within : goal.join_row-requires-clause-within
 join_row-requires-clause-within c = rw c.loop-n.invariant.size (c.requires _ (is_in-at c.args.places.now c.loop-n.n (search rules)))
 
 pub join_row-requires-clause-all_within : goal.join_row-requires-clause-all_within
-join_row-requires-clause-all_within c = λ j here. rw c.loop-n.invariant.size (c.requires j (is_in-front j c.args.places.now c.loop-n.n here))
+join_row-requires-clause-all_within c = λ j here. rw c.loop-n.invariant.size (c.requires j (is_in-prefix c.args.places.now c.loop-n.n j here))
 
 pub loop-n-preserved : goal.loop-n-preserved
 loop-n-preserved c =
@@ -23,9 +22,9 @@ loop-n-preserved c =
     record {
       pairs = λ p q.
           now.pairs p q
-          ∙ ap (λ b. b || (not (p == q) && (((p == i) && is_in q (take n js)) || (is_in p (take n js) && (q == i))))) (was.pairs p q)
-          ∙ pairs-more (is_joined c.args.self.now p q) (not (p == q)) (is_in p (take n js)) (is_in q (take n js)) (p == i) (q == i) (one-place p q i)
-          ∙ (λ t. is_joined c.args.self.now p q || (not (p == q) && front-more p js n (search rules) t && front-more q js n (search rules) t));
+          ∙ ap (λ b. b || (not (p == q) && (((p == i) && is_in (take n js) q) || (is_in (take n js) p && (q == i))))) (was.pairs p q)
+          ∙ pairs-more (is_joined c.args.self.now p q) (not (p == q)) (is_in (take n js) p) (is_in (take n js) q) (p == i) (q == i) (one-place p q i)
+          ∙ (λ t. is_joined c.args.self.now p q || (not (p == q) && is_in-next js n p (search rules) t && is_in-next js n q (search rules) t));
       size = now.size ∙ was.size;
     }
 
@@ -33,4 +32,4 @@ pub returns-clause-pairs : goal.returns-clause-pairs
 returns-clause-pairs c = λ p q.
     let all : take c.loop-n.n c.args.places.now ≡ c.args.places.now = take_all c.loop-n.n c.args.places.now (search rules) in
     c.loop-n.invariant.pairs p q
-    ∙ (λ t. is_joined c.args.self.now p q || (not (p == q) && is_in p (all t) && is_in q (all t)))
+    ∙ (λ t. is_joined c.args.self.now p q || (not (p == q) && is_in (all t) p && is_in (all t) q))

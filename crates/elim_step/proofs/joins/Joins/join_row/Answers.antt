@@ -1,9 +1,8 @@
 use Rattle.std.proofs.Common.{◌≡◌, ◌&&◌, ◌||◌, not, ◌==◌, ap, ◌∙◌, rules, take, get_or}
 use Rattle.std.proofs.lemmas.List.{take_all}
-use Rattle.elim_step.specs.Blocks.{is_in}
+use Rattle.stn_walk.specs.Eliminations.{is_in}
 use Rattle.elim_step.specs.JoinedPlaces.{is_joined}
-use Rattle.elim_step.proofs.Lists.{is_in-at}
-use Rattle.elim_step.proofs.Regions.{front-more}
+use Rattle.stn_walk.proofs.Members.{is_in-next, is_in-at}
 use Rattle.elim_step.proofs.JoinWrites.{row-more}
 use Rattle.elim_step.proofs.joins.Joins.join_row.Goals as goal
 
@@ -23,8 +22,9 @@ loop-j-preserved c =
       pairs = λ p q.
           now.pairs p q
           ∙ ap (λ b. b || (not (p == q) && (((p == i) && (q == j)) || ((p == j) && (q == i))))) (was.pairs p q)
-          ∙ row-more (is_joined c.args.self.now p q) (not (p == q)) (p == i) (is_in q (take n js)) (is_in p (take n js)) (q == i) (q == j) (p == j)
-          ∙ (λ t. is_joined c.args.self.now p q || (not (p == q) && (((p == i) && front-more q js n (search rules) t) || (front-more p js n (search rules) t && (q == i)))));
+          ∙ row-more (is_joined c.args.self.now p q) (not (p == q)) (p == i) (is_in (take n js) q) (is_in (take n js) p) (q == i) (q == j) (p == j)
+          ∙ (λ t. is_joined c.args.self.now p q
+          || (not (p == q) && (((p == i) && is_in-next js n q (search rules) t) || (is_in-next js n p (search rules) t && (q == i)))));
       size = now.size ∙ was.size;
     }
 
@@ -32,4 +32,4 @@ pub returns-clause-pairs : goal.returns-clause-pairs
 returns-clause-pairs c = λ p q.
     let all : take c.loop-j.j-index c.args.others.now ≡ c.args.others.now = take_all c.loop-j.j-index c.args.others.now (search rules) in
     c.loop-j.invariant.pairs p q
-    ∙ (λ t. is_joined c.args.self.now p q || (not (p == q) && (((p == c.args.i) && is_in q (all t)) || (is_in p (all t) && (q == c.args.i)))))
+    ∙ (λ t. is_joined c.args.self.now p q || (not (p == q) && (((p == c.args.i) && is_in (all t) q) || (is_in (all t) p && (q == c.args.i)))))

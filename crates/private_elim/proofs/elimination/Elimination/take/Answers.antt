@@ -4,13 +4,12 @@ use Rattle.std.proofs.lemmas.List.{map-append}
 use Rattle.stn_model.specs.declared.ids.PointId.{PointId}
 use Rattle.dist_rows.specs.Matrix.{cell_at, room-from_cell, within-from_room}
 use Rattle.elim_step.specs.Eliminates.{StepGives, remains, count_below}
-use Rattle.elim_step.specs.Blocks.{is_in as is_in_block}
 use Rattle.private_elim.specs.Degrees.{degree_of}
 use Rattle.elim_step.specs.declared.step.Found.TheVariants.{Clear, Negative}
 use Rattle.elim_step.specs.Eliminated.{point_at}
 use Rattle.elim_step.specs.JoinedPlaces.{is_joined}
 use Rattle.elim_step.proofs.Sound.{all_light}
-use Rattle.elim_step.proofs.JoinFacts.{joined-met, joined-within}
+use Rattle.elim_step.proofs.JoinFacts.{joined-neighbours, joined-within}
 use Rattle.elim_step.proofs.Whole.{none-from}
 use Rattle.private_elim.specs.Locals.{arcs_in}
 use Rattle.private_elim.proofs.Takes.{local_ground, taken_more, stops_at, joined_back}
@@ -55,7 +54,7 @@ returns-in-Negative-clause-taken g c =
     rw (← c.self.view_is) (stops.0, ap (map (λ (p : PointId). p.0)) c.reserve.ensures.items, stops.1)
 
 pub recount-requires-clause-within : goal.recount-requires-clause-within
-recount-requires-clause-within g c p here = rw c.join_all.ensures.size (c.in_ok-met.ensures.within p (rw c.as_slice-in-Clear-3.ensures.value at here))
+recount-requires-clause-within g c p here = rw c.join_all.ensures.size (c.in_ok-neighbours.ensures.within p (rw c.as_slice-in-Clear-3.ensures.value at here))
 
 pub invariant_of-self-in-Clear : goal.invariant_of-self-in-Clear
 invariant_of-self-in-Clear g c =
@@ -66,22 +65,22 @@ invariant_of-self-in-Clear g c =
     let at = cell_at e.rows.size e.rows.slots.items in
     let after = cell_at c.eliminate_point.new.rows.size c.eliminate_point.new.rows.slots.items in
     let joins' = c.join_all.new.self in
-    let met = c.in_ok-met.met.items in
+    let neighbours = c.in_ok-neighbours.neighbours.items in
     let order = map (λ (p : PointId). p.0) e.order.items in
     let step : StepGives e.remain.items k at after Clear = (rw (c.as_slice-2.ensures.value, c.in-Clear.is) at c.in_ok-other.ensures.step) in
     let within = (rw (← c.self.view_is) at c.requires.within) in
     let private = (rw (← c.self.view_is) at c.requires.private) in
     let left = (rw (← c.self.view_is) at c.requires.left) in
-    let each : (p : ℕ) → is_in_block p met ≡ (remains e.remain.items p && is_joined e.joins k p) = (rw c.as_slice.ensures.value at c.in_ok-met.ensures.each) in
-    let pairs : (p q : ℕ) → is_joined joins' p q ≡ (is_joined e.joins p q || (not (p == q) && is_in_block p met && is_in_block q met)) = (rw c.as_slice-in-Clear.ensures.value at c.join_all.ensures.pairs) in
-    let joins = joined-met e.remain.items k met (is_joined e.joins) (is_joined joins') each pairs in
+    let each : (p : ℕ) → is_in neighbours p ≡ (remains e.remain.items p && is_joined e.joins k p) = (rw c.as_slice.ensures.value at c.in_ok-neighbours.ensures.each) in
+    let pairs : (p q : ℕ) → is_joined joins' p q ≡ (is_joined e.joins p q || (not (p == q) && is_in neighbours p && is_in neighbours q)) = (rw c.as_slice-in-Clear.ensures.value at c.join_all.ensures.pairs) in
+    let joins = joined-neighbours e.remain.items k neighbours (is_joined e.joins) (is_joined joins') each pairs in
     let size = h.joins_size in
     let back = joined_back v order at (is_joined e.joins) e.remain.items h.taken (λ p q t. let w = joined-within e.joins.size e.joins.bits.items p q t in let lp = w.0 in let lq = w.1 in (omega arith, omega arith)) in
     let len = h.taken.cells.len in
     let lk : k < length e.remain.items = omega arith in
     let was : (p : ℕ) → remains e.remain.items p ≡ true → get_or e.degrees.items p 0 ≡ count_below (λ q. remains e.remain.items q && is_joined e.joins p q) joins'.size =
     λ p t. h.degrees p t ∙ ap (count_below (λ q. remains e.remain.items q && is_joined e.joins p q)) (sym c.join_all.ensures.size) in
-    let now : (p : ℕ) → get_or c.recount.new.degrees.items p 0 ≡ (if is_in_block p met then degree_of (set e.remain.items k false) joins' p else get_or e.degrees.items p 0) =
+    let now : (p : ℕ) → get_or c.recount.new.degrees.items p 0 ≡ (if is_in neighbours p then degree_of (set e.remain.items k false) joins' p else get_or e.degrees.items p 0) =
     (rw (c.as_slice-in-Clear-2.ensures.value, c.as_slice-in-Clear-3.ensures.value) at c.recount.ensures.each) in
     let point : c.point-point.result.0 ≡ point_at v.points k = c.point-point.ensures in
     let turned : map (λ (p : PointId). p.0) c.push_reserved.new.self.items ≡ order ++ point_at v.points k ∷ [] =
@@ -91,6 +90,6 @@ invariant_of-self-in-Clear g c =
       square = c.eliminate_point.ensures.places ∙ h.square;
       joins_size = c.join_all.ensures.size ∙ h.joins_size;
       degrees_len = c.recount.ensures.len ∙ h.degrees_len;
-      degrees = degrees_after joins'.size e.remain.items k (is_joined e.joins) (is_joined joins') met (λ p. get_or e.degrees.items p 0) (λ p. get_or c.recount.new.degrees.items p 0) lk each back joins was now;
+      degrees = degrees_after joins'.size e.remain.items k (is_joined e.joins) (is_joined joins') neighbours (λ p. get_or e.degrees.items p 0) (λ p. get_or c.recount.new.degrees.items p 0) lk each back joins was now;
       taken = rw turned (taken_more v order at after (is_joined e.joins) (is_joined joins') e.remain.items k h.taken within private left step.0 step.1 joins);
     }

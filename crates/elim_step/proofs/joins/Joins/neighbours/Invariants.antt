@@ -3,7 +3,7 @@ use Rattle.std.specs.List.{AllPairs}
 use Rattle.elim_step.specs.Eliminates.{remains}
 use Rattle.elim_step.specs.Blocks.{IsBlock}
 use Rattle.elim_step.specs.JoinedPlaces.{is_joined}
-use Rattle.elim_step.proofs.joins.Joins.met.Given as goal
+use Rattle.elim_step.proofs.joins.Joins.neighbours.Given as goal
 
 abbrev pub invariant-loop-p : goal.invariant-loop-p
 invariant-loop-p l = record {
