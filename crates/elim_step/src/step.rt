@@ -70,6 +70,7 @@ fn first_negative<R: Rows, L: Ledger>(
     ensures each { IfNone result (steps.new ≡ steps.old + count_below (is_neighbour remain.now (R.at rows.now) k) (R.places rows.now)) }
     ensures most { steps.new ≤ steps.old + count_below (is_neighbour remain.now (R.at rows.now) k) (R.places rows.now) }
 {
+    // With the size comes that places are below 2^32.
     let _size = rows.size();
     let mut from = 0;
     while let Some(n) = next_from(rows, k, from) {

@@ -17,7 +17,8 @@ abbrev pub bound_by_place : PrivateBounds → Option ℕ → Option ℕ → Opti
 bound_by_place b None q = None
 bound_by_place b (Some p) None = None
 bound_by_place b (Some p) (Some q) =
-    if slice_index_or b.private.items p false || slice_index_or b.private.items q false then weight_at (cell_at b.finals.size b.finals.slots.items p q) else None
+    if slice_index_or b.private.items p false
+    || slice_index_or b.private.items q false then weight_at (cell_at b.finals.size b.finals.slots.items p q) else None
 
 -- the bound between two points of which one is private
 abbrev pub bound_between : PrivateBounds → ℕ → ℕ → Option ℤ

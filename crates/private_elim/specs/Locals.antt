@@ -1,7 +1,8 @@
 -- What contracts see of an agent's own part of a network (its local problem: Boerkoel and Durfee 2013): LocalView, owned_below,
 -- own_below, points_of, numbered_own, local_from, local_of, window_arcs, IsAdded, IsLocal, arcs_in, all_numbered, place_in,
 -- private_at, is_private_in, is_seen_in, is_point_of, horizon_in, no_local_arc, local_arc_at, IsWindow, IsWindowOf.
-use Rattle.std.specs.Prelude.{◌≡◌, ◌≢◌, ℕ, zero, suc, ◌+◌, ◌<◌, ℤ, pos, neg_ℤ, ◌≤ℤ◌, List, [], ◌∷◌, ◌++◌, map, length, Bool, true, false, ◌&&◌, not, ◌==◌, Option, Some, None, is_some, slice_index_or, if◌then◌else◌, Contains}
+use Rattle.std.specs.Prelude.{◌≡◌, ◌≢◌, ℕ, zero, suc, ◌+◌, ◌<◌, ℤ, pos, neg_ℤ, ◌≤ℤ◌, List, [], ◌∷◌, ◌++◌, map, length, Bool, true, false, ◌&&◌, not}
+use Rattle.std.specs.Prelude.{◌==◌, Option, Some, None, is_some, slice_index_or, if◌then◌else◌, Contains}
 use Rattle.std.specs.List.{All, list_all}
 use Rattle.std.specs.Option.{option_map}
 use Rattle.stn_model.specs.declared.ids.Constraint.{Constraint}

@@ -4,4 +4,4 @@ use Rattle.private_elim.specs.ReducedViews.{ReducedView}
 
 -- what contracts see of the fields
 abbrev pub reduced_view : Inside → ReducedView
-reduced_view r = record { local = r.part.local; order = r.part.order; summary = r.summary }
+reduced_view r = record { local = r.elimination.local; order = r.elimination.order; summary = r.summary }

@@ -33,7 +33,8 @@ pub record IsSwept (v : LocalView) (order : List ℕ) (entries : List SummaryEnt
   pub places : (p : ℕ) → p < length v.points → remains done p ≡ not (is_in (take n order) (point_at v.points p))
   pub len : length done ≡ length v.points
   pub ends : (p q : ℕ) → is_some (at p q) ≡ true → (remains done p ≡ true) × (remains done q ≡ true)
-  pub pairs : (p q : ℕ) → is_some (at p q) ≡ true → (private_at v p || private_at v q) ≡ true → IsJoined (arcs_in v) order (point_at v.points p) (point_at v.points q)
+  pub pairs : (p q : ℕ) → is_some (at p q) ≡ true → (private_at v p || private_at v q) ≡ true
+      → IsJoined (arcs_in v) order (point_at v.points p) (point_at v.points q)
   pub light : (p q : ℕ) → IfSome (at p q) (λ c. nat_abs c.weight ≤ 9007199254740992 + (length order - n) * 4503599627370496)
   pub least : OfPart v (λ net. HoldsFinals net v.agent entries
       → (p q : ℕ) → p < length v.points → q < length v.points → remains done p ≡ true → remains done q ≡ true

@@ -26,7 +26,8 @@ pub record IsTaken (v : LocalView) (order : List ℕ) (at : ℕ → ℕ → Opti
   pub cells : IsEliminated v.points (arcs_in v) (reverse order) at remain
   pub origins : HasOrigins v.points (arcs_in v) (reverse order) at
   pub joins : (i j : ℕ) → i < length v.points → j < length v.points → i ≢ j
-      → joined i j ≡ joined_of (arcs_in v) (before_both (reverse order) (point_at v.points i) (point_at v.points j)) (point_at v.points i) (point_at v.points j)
+      → joined i j ≡ joined_of (arcs_in v) (before_both (reverse order) (point_at v.points i) (point_at v.points j)) (point_at v.points i)
+      (point_at v.points j)
   pub alone : (i : ℕ) → joined i i ≡ false
 
 -- what is known of it without its cells

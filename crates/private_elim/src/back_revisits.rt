@@ -125,5 +125,7 @@ pub fn back_sweep(
 {
     // The summary is not read: with it comes the fact that all private points are taken.
     let _summary = reduced.summary();
-    reduced.part.sweep::<Brand>(alloc, finals, Blank::new(1))
+    reduced
+        .elimination
+        .sweep::<Brand>(alloc, finals, Blank::new(1))
 }

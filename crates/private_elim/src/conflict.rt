@@ -16,22 +16,22 @@ use stn_walk::{Walk, negative_cycle};
 /// The cycle of an own conflict, by the numbers of its arcs in the network, where the private point at a place fails with another.
 pub fn own_conflict(
     alloc: Global,
-    part: &Elimination,
+    elimination: &Elimination,
     place: u32,
     other: u32,
 ) -> Result<Walk, OutOfMemory>
-    requires within { (place < length part.now.local.points) × (other < length part.now.local.points) }
-    requires private { is_private_in part.now.local (point_at part.now.local.points place) ≡ true }
-    requires fails { Fails part.now.local (reverse part.now.order) (point_at part.now.local.points place) (point_at part.now.local.points other) }
-    ensures cycle { IfOk result (λ w. OfNetwork part.now.local (λ net. IsOwnConflict net part.now.local.agent w)) }
+    requires within { (place < length elimination.now.local.points) × (other < length elimination.now.local.points) }
+    requires private { is_private_in elimination.now.local (point_at elimination.now.local.points place) ≡ true }
+    requires fails { Fails elimination.now.local (reverse elimination.now.order) (point_at elimination.now.local.points place) (point_at elimination.now.local.points other) }
+    ensures cycle { IfOk result (λ w. OfNetwork elimination.now.local (λ net. IsOwnConflict net elimination.now.local.agent w)) }
     ensures normal { IfOk result IsNormal }
 {
-    // What the size tells of the part: the taken points are private, and no closed walk through them is negative.
-    let _facts = part.size();
-    let mut closed = part.unfold(alloc, place, other)?;
-    let back = part.unfold(alloc, other, place)?;
+    // What the size tells of the elimination: the taken points are private, and no closed walk through them is negative.
+    let _facts = elimination.size();
+    let mut closed = elimination.unfold(alloc, place, other)?;
+    let back = elimination.unfold(alloc, other, place)?;
     closed.extend_from_slice(back.as_slice())?;
-    let local = part.local();
+    let local = elimination.local();
     let cycle = negative_cycle(alloc, local, closed.as_slice())?;
     let numbers = numbers_of(alloc, local, cycle.as_slice())?;
     Ok(Walk::new(numbers))

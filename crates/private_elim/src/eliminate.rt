@@ -51,8 +51,8 @@ pub fn eliminate_private(
     ensures picks { IfOk result (IfReduced (λ r. ArePicked (post (picker.now.key.vtable, picker.now.key.value)) local.now (reverse r.order))) }
     ensures summary { IfOk result (IfReduced (λ r. OfNetwork local.now (λ net. IsSummary net local.now.agent (map entry_of r.summary)))) }
 {
-    let part = Elimination::start(alloc, local)?;
-    take_picked::<Brand>(alloc, Blank::new(1), part, picker)
+    let elimination = Elimination::start(alloc, local)?;
+    take_picked::<Brand>(alloc, Blank::new(1), elimination, picker)
 }
 
 /// The same as [`eliminate_private`] in a given order, which holds each private point once and nothing else.
@@ -74,36 +74,37 @@ pub fn eliminate_listed(
     ensures order { IfOk result (IfReduced (λ r. r.order ≡ map (λ p. p.0) order.now)) }
     ensures summary { IfOk result (IfReduced (λ r. OfNetwork local.now (λ net. IsSummary net local.now.agent (map entry_of r.summary)))) }
 {
-    let part = Elimination::start(alloc, local)?;
-    take_listed::<Brand>(alloc, Blank::new(1), part, order)
+    let elimination = Elimination::start(alloc, local)?;
+    take_listed::<Brand>(alloc, Blank::new(1), elimination, order)
 }
 
 // Takes the private points as the picker allows, until none is left or one fails.
 fn take_picked<L: Ledger>(
     alloc: Global,
     blank: Blank,
-    part: Elimination,
+    elimination: Elimination,
     picker: &Picker,
 ) -> Result<PrivateOutcome, OutOfMemory>
     requires name { blank.name ≡ L.name }
     requires parts { blank.parts ≡ L.parts }
     requires some { blank.parts ≡ 1 }
-    requires start { part.order ≡ [] }
-    ensures { IfOk result (IsPickedOutcome (post (picker.now.key.vtable, picker.now.key.value)) part.local) }
+    requires start { elimination.order ≡ [] }
+    ensures { IfOk result (IsPickedOutcome (post (picker.now.key.vtable, picker.now.key.value)) elimination.local) }
 {
     let mut steps = Steps::<L>::new(blank);
-    let mut part = part;
+    let mut elimination = elimination;
     let mut candidates = Vec::new(alloc);
     'taking: loop {
-        part.candidates(&mut candidates)?;
+        elimination.candidates(&mut candidates)?;
         let Some(k) = picker.pick(candidates.as_slice()) else {
-            return reduced(alloc, part);
+            return reduced(alloc, elimination);
         };
-        let place = picked_place(&part, candidates.as_slice(), k);
-        if let Some(other) = part.take(alloc, place, &mut steps)? {
-            return conflict(alloc, &part, place, other);
+        let place = picked_place(&elimination, candidates.as_slice(), k);
+        if let Some(other) = elimination.take(alloc, place, &mut steps)? {
+            return conflict(alloc, &elimination, place, other);
         }
-        let _taken = part.size();
+        // With the size comes that no more points are taken than there are, so that the loop ends.
+        let _taken = elimination.size();
     }
 }
 
@@ -111,64 +112,67 @@ fn take_picked<L: Ledger>(
 fn take_listed<L: Ledger>(
     alloc: Global,
     blank: Blank,
-    part: Elimination,
+    elimination: Elimination,
     order: &[PointId],
 ) -> Result<PrivateOutcome, OutOfMemory>
     requires name { blank.name ≡ L.name }
     requires parts { blank.parts ≡ L.parts }
     requires some { blank.parts ≡ 1 }
-    requires start { part.order ≡ [] }
-    requires private { AllByRecursion (λ p. is_private_in part.local p.0 ≡ true) order.now }
+    requires start { elimination.order ≡ [] }
+    requires private { AllByRecursion (λ p. is_private_in elimination.local p.0 ≡ true) order.now }
     requires once { AllDifferent (map (λ p. p.0) order.now) }
-    requires whole { (p : ℕ) → is_private_in part.local p ≡ true → is_in (reverse (map (λ p. p.0) order.now)) p ≡ true }
-    ensures { IfOk result (IsListedOutcome part.local (map (λ p. p.0) order.now)) }
+    requires whole { (p : ℕ) → is_private_in elimination.local p ≡ true → is_in (reverse (map (λ p. p.0) order.now)) p ≡ true }
+    ensures { IfOk result (IsListedOutcome elimination.local (map (λ p. p.0) order.now)) }
 {
     let mut steps = Steps::<L>::new(blank);
-    let mut part = part;
+    let mut elimination = elimination;
     for n in 0..order.len() {
-        let place = listed_place(&part, order, n);
-        if let Some(other) = part.take(alloc, place, &mut steps)? {
-            return conflict(alloc, &part, place, other);
+        let place = listed_place(&elimination, order, n);
+        if let Some(other) = elimination.take(alloc, place, &mut steps)? {
+            return conflict(alloc, &elimination, place, other);
         }
     }
-    reduced(alloc, part)
+    reduced(alloc, elimination)
 }
 
 // The place of a candidate.
-fn picked_place(part: &Elimination, candidates: &[Candidate], k: usize) -> u32
-    requires are { AreCandidates part.now.local (reverse part.now.order) candidates.now }
+fn picked_place(elimination: &Elimination, candidates: &[Candidate], k: usize) -> u32
+    requires are { AreCandidates elimination.now.local (reverse elimination.now.order) candidates.now }
     requires within { k < length candidates.now }
-    ensures { IsNext part.now (candidate_at candidates.now k).number result }
+    ensures { IsNext elimination.now (candidate_at candidates.now k).number result }
 {
-    let _size = part.size();
-    let Some(place) = part.local().place_of(PointId(candidates[k].number)) else {
+    // With the size comes that it is a local problem, in which each candidate has a place.
+    let _size = elimination.size();
+    let Some(place) = elimination.local().place_of(PointId(candidates[k].number)) else {
         unreachable!()
     };
     place
 }
 
 // The place of the next point of an order.
-fn listed_place(part: &Elimination, order: &[PointId], n: usize) -> u32
+fn listed_place(elimination: &Elimination, order: &[PointId], n: usize) -> u32
     requires within { n < length order.now }
-    requires taken { part.now.order ≡ take n (map (λ p. p.0) order.now) }
-    requires private { AllByRecursion (λ p. is_private_in part.now.local p.0 ≡ true) order.now }
+    requires taken { elimination.now.order ≡ take n (map (λ p. p.0) order.now) }
+    requires private { AllByRecursion (λ p. is_private_in elimination.now.local p.0 ≡ true) order.now }
     requires once { AllDifferent (map (λ p. p.0) order.now) }
-    ensures { IsNext part.now (slice_index (map (λ p. p.0) order.now) n) result }
+    ensures { IsNext elimination.now (slice_index (map (λ p. p.0) order.now) n) result }
 {
-    let _size = part.size();
-    let Some(place) = part.local().place_of(order[n]) else {
+    // With the size comes that it is a local problem, in which each private point has a place.
+    let _size = elimination.size();
+    let Some(place) = elimination.local().place_of(order[n]) else {
         unreachable!()
     };
     place
 }
 
 // The answer once all private points are taken.
-fn reduced(alloc: Global, part: Elimination) -> Result<PrivateOutcome, OutOfMemory>
-    requires { (p : ℕ) → is_private_in part.local p ≡ true → is_in (reverse part.order) p ≡ true }
-    ensures { IfOk result (IsReducedFrom part) }
+fn reduced(alloc: Global, elimination: Elimination) -> Result<PrivateOutcome, OutOfMemory>
+    requires { (p : ℕ) → is_private_in elimination.local p ≡ true → is_in (reverse elimination.order) p ≡ true }
+    ensures { IfOk result (IsReducedFrom elimination) }
 {
-    let _taken = part.size();
-    let reduced = summarise(alloc, part)?;
+    // With the size comes what is known of the taken points, and with the summary what is known of its entries.
+    let _taken = elimination.size();
+    let reduced = summarise(alloc, elimination)?;
     let _told = reduced.summary();
     Ok(PrivateOutcome::Reduced(reduced))
 }
@@ -176,20 +180,21 @@ fn reduced(alloc: Global, part: Elimination) -> Result<PrivateOutcome, OutOfMemo
 // The answer where the point at a place fails.
 fn conflict(
     alloc: Global,
-    part: &Elimination,
+    elimination: &Elimination,
     place: u32,
     other: u32,
 ) -> Result<PrivateOutcome, OutOfMemory>
-    requires within { (place < length part.now.local.points) × (other < length part.now.local.points) }
-    requires private { is_private_in part.now.local (point_at part.now.local.points place) ≡ true }
-    requires fails { Fails part.now.local (reverse part.now.order) (point_at part.now.local.points place) (point_at part.now.local.points other) }
-    ensures { IfOk result (IsConflictFrom part.now (point_at part.now.local.points other)) }
+    requires within { (place < length elimination.now.local.points) × (other < length elimination.now.local.points) }
+    requires private { is_private_in elimination.now.local (point_at elimination.now.local.points place) ≡ true }
+    requires fails { Fails elimination.now.local (reverse elimination.now.order) (point_at elimination.now.local.points place) (point_at elimination.now.local.points other) }
+    ensures { IfOk result (IsConflictFrom elimination.now (point_at elimination.now.local.points other)) }
 {
-    let walk = own_conflict(alloc, part, place, other)?;
-    let _size = part.size();
+    let walk = own_conflict(alloc, elimination, place, other)?;
+    // With the size comes that the taken points are few enough to count.
+    let _size = elimination.size();
     Ok(PrivateOutcome::Conflict {
         walk,
-        place: part.order().len() as u32,
-        other: part.local().point(other),
+        place: elimination.order().len() as u32,
+        other: elimination.local().point(other),
     })
 }

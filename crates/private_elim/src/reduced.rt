@@ -22,7 +22,7 @@ use stn_walk::Walk;
 /// weights between its points through private ones.
 #[derive(Drop)]
 pub struct Reduced {
-    pub(crate) part: Elimination,
+    pub(crate) elimination: Elimination,
     pub(crate) summary: Summary,
 }
 
@@ -35,7 +35,7 @@ impl Model for Reduced {
 
     ghost view = { reduced_view };
 
-    ghost invariant = { λ r. IsReduced r.part.local r.part.order r.summary };
+    ghost invariant = { λ r. IsReduced r.elimination.local r.elimination.order r.summary };
 }
 
 impl Reduced {
@@ -43,7 +43,7 @@ impl Reduced {
     pub fn order(&self) -> &[PointId]
         ensures { map (λ p. p.0) result.now ≡ self.now.order }
     {
-        self.part.order()
+        self.elimination.order()
     }
 
     /// What the agent tells the others: for each ordered pair of different points that others see (the reference point and its shared
@@ -65,12 +65,12 @@ impl Reduced {
         ensures strange_end { is_point_of self.now.local j.0 ≡ false → result ≡ None }
         ensures least { i.0 ≢ j.0 → IsInnerWeight (is_in (before_both (reverse self.now.order) i.0 j.0)) (arcs_in self.now.local) i.0 j.0 result }
     {
-        // What the size tells of the part: no closed walk through taken points is negative.
-        let _size = self.part.size();
-        let local = self.part.local();
+        // With the size comes that no closed walk through taken points is negative.
+        let _size = self.elimination.size();
+        let local = self.elimination.local();
         let from = local.place_of(i)?;
         let to = local.place_of(j)?;
-        self.part.weight(from, to)
+        self.elimination.weight(from, to)
     }
 
     /// A walk of own arcs, by their numbers in the network, for a pair that has an entry of the summary or a
@@ -83,9 +83,8 @@ impl Reduced {
         ensures weight { IfOk result (λ w. OfNetwork self.now.local (λ net. IsWeightBetween self.now i.0 j.0 (walks.weight (arcs_of net) w))) }
     {
         // As in `forward`: no closed walk through taken points is negative.
-        let _size = self.part.size();
-        let walk = self.walk_between(alloc, i, j)?;
-        Ok(walk)
+        let _size = self.elimination.size();
+        self.walk_between(alloc, i, j)
     }
 
     // The same, where the forward weight is what elimination gives.
@@ -96,19 +95,19 @@ impl Reduced {
         ensures weight { IfOk result (λ w. OfNetwork self.now.local (λ net. Some (walks.weight (arcs_of net) w) ≡ weight_between self.now i.0 j.0)) }
     {
         // As in `forward`: no closed walk through taken points is negative.
-        let _size = self.part.size();
-        let local = self.part.local();
+        let _size = self.elimination.size();
+        let local = self.elimination.local();
         let Some(from) = local.place_of(i) else {
             unreachable!()
         };
         let Some(to) = local.place_of(j) else {
             unreachable!()
         };
-        if is_detour(&self.part, from, to) {
+        if is_detour(&self.elimination, from, to) {
             let numbers = detour(alloc, i, j)?;
             return Ok(Walk::new(numbers));
         }
-        let places = self.part.unfold(alloc, from, to)?;
+        let places = self.elimination.unfold(alloc, from, to)?;
         let numbers = numbers_of(alloc, local, places.as_slice())?;
         Ok(Walk::new(numbers))
     }
@@ -117,20 +116,24 @@ impl Reduced {
     pub fn copy(&self, alloc: Global) -> Result<Reduced, OutOfMemory>
         ensures { IfOk result (λ r. r ≡ self.now) }
     {
-        let part = self.part.copy(alloc)?;
+        let elimination = self.elimination.copy(alloc)?;
         let summary = self.summary.copy(alloc)?;
-        Ok(Reduced { part, summary })
+        Ok(Reduced {
+            elimination,
+            summary,
+        })
     }
 }
 
 // Whether the walk of the pair's entry goes through the reference point: the pair has an entry, and no forward weight of at most the
 // horizon.
-fn is_detour(part: &Elimination, from: u32, to: u32) -> bool
-    requires within { (from < length part.now.local.points) × (to < length part.now.local.points) }
+fn is_detour(elimination: &Elimination, from: u32, to: u32) -> bool
+    requires within { (from < length elimination.now.local.points) × (to < length elimination.now.local.points) }
     requires apart { from ≢ to }
-    ensures { result ≡ (is_pair_at part.now from to && is_over (horizon_in part.now.local) (forward_at part.now from to)) }
+    ensures { result ≡ (is_pair_at elimination.now from to && is_over (horizon_in elimination.now.local) (forward_at elimination.now from to)) }
 {
-    is_pair(part, from, to) && is_over(part.local().horizon(), part.weight(from, to))
+    is_pair(elimination, from, to)
+        && is_over(elimination.local().horizon(), elimination.weight(from, to))
 }
 
 // Whether a weight is missing, or above the horizon.

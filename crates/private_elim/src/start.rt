@@ -49,6 +49,7 @@ fn lay_arcs(local: &Local, rows: &mut MatrixRows, joins: &mut Joins)
     ensures joins_size { joins.new.size ≡ joins.old.size }
     ensures laid { IsLaid local.now (length local.now.arcs) (cell_at rows.new.size rows.new.slots.items) (is_joined joins.new) }
 {
+    // With the size comes that it is a local problem, whose arcs join its points.
     let _places = local.size();
     for k in 0..local.arcs() {
         lay_arc(local, rows, joins, k);
@@ -64,6 +65,7 @@ fn lay_arc(local: &Local, rows: &mut MatrixRows, joins: &mut Joins, k: u32)
     ensures joins_size { joins.new.size ≡ joins.old.size }
     ensures arc { IsLaidArc local.now k (cell_at rows.old.size rows.old.slots.items) (cell_at rows.new.size rows.new.slots.items) (is_joined joins.old) (is_joined joins.new) }
 {
+    // With the size comes that it is a local problem, in which both ends have a place.
     let _places = local.size();
     let arc = local.arc(k).arc;
     let Some(from) = local.place_of(arc.from) else {

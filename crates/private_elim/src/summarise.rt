@@ -13,40 +13,47 @@ use std::alloc::Global;
 use stn_model::OutOfMemory;
 
 /// The reduced local problem, once all private points are taken, or OutOfMemory.
-pub fn summarise(alloc: Global, part: Elimination) -> Result<Reduced, OutOfMemory>
-    requires whole { (p : ℕ) → is_private_in part.local p ≡ true → is_in (reverse part.order) p ≡ true }
-    ensures local { IfOk result (λ r. r.local ≡ part.local) }
-    ensures order { IfOk result (λ r. r.order ≡ part.order) }
+pub fn summarise(alloc: Global, elimination: Elimination) -> Result<Reduced, OutOfMemory>
+    requires whole { (p : ℕ) → is_private_in elimination.local p ≡ true → is_in (reverse elimination.order) p ≡ true }
+    ensures local { IfOk result (λ r. r.local ≡ elimination.local) }
+    ensures order { IfOk result (λ r. r.order ≡ elimination.order) }
 {
-    let entries = entries_of(alloc, &part)?;
+    let entries = entries_of(alloc, &elimination)?;
     let Some(summary) = Summary::new(entries) else {
         unreachable!()
     };
-    Ok(Reduced { part, summary })
+    Ok(Reduced {
+        elimination,
+        summary,
+    })
 }
 
 // The entries of all pairs that have one, by rising pairs.
-fn entries_of(alloc: Global, part: &Elimination) -> Result<Vec<SummaryEntry>, OutOfMemory>
-    ensures entries { IfOk result (λ entries. entries.items ≡ rows_below part.now (length part.now.local.points)) }
-    ensures taken { HasTaken part.now }
+fn entries_of(alloc: Global, elimination: &Elimination) -> Result<Vec<SummaryEntry>, OutOfMemory>
+    ensures entries { IfOk result (λ entries. entries.items ≡ rows_below elimination.now (length elimination.now.local.points)) }
+    ensures taken { HasTaken elimination.now }
 {
     let mut entries = Vec::new(alloc);
-    for i in 0..part.size() {
-        push_row(&mut entries, part, i)?;
+    for i in 0..elimination.size() {
+        push_row(&mut entries, elimination, i)?;
     }
     Ok(entries)
 }
 
 // Adds the entries from a place.
-fn push_row(entries: &mut Vec<SummaryEntry>, part: &Elimination, i: u32) -> Result<(), OutOfMemory>
-    requires { i < length part.now.local.points }
-    ensures { IfOk result (λ _. entries.new.items ≡ entries.old.items ++ row_of part.now i) }
+fn push_row(
+    entries: &mut Vec<SummaryEntry>,
+    elimination: &Elimination,
+    i: u32,
+) -> Result<(), OutOfMemory>
+    requires { i < length elimination.now.local.points }
+    ensures { IfOk result (λ _. entries.new.items ≡ entries.old.items ++ row_of elimination.now i) }
 {
-    if part.local().is_private(i) {
+    if elimination.local().is_private(i) {
         return Ok(());
     }
-    for j in 0..part.size() {
-        push_pair(entries, part, i, j)?;
+    for j in 0..elimination.size() {
+        push_pair(entries, elimination, i, j)?;
     }
     Ok(())
 }
@@ -54,39 +61,39 @@ fn push_row(entries: &mut Vec<SummaryEntry>, part: &Elimination, i: u32) -> Resu
 // Adds the entry from one place to another, where there is one.
 fn push_pair(
     entries: &mut Vec<SummaryEntry>,
-    part: &Elimination,
+    elimination: &Elimination,
     i: u32,
     j: u32,
 ) -> Result<(), OutOfMemory>
-    requires { (i < length part.now.local.points) × (j < length part.now.local.points) }
-    ensures { IfOk result (λ _. entries.new.items ≡ entries.old.items ++ pair_entries part.now i j) }
+    requires { (i < length elimination.now.local.points) × (j < length elimination.now.local.points) }
+    ensures { IfOk result (λ _. entries.new.items ≡ entries.old.items ++ pair_entries elimination.now i j) }
 {
-    if is_pair(part, i, j) {
-        entries.push(entry(part, i, j))?;
+    if is_pair(elimination, i, j) {
+        entries.push(entry(elimination, i, j))?;
     }
     Ok(())
 }
 
 // Whether the summary has an entry from one place to another.
-pub(crate) fn is_pair(part: &Elimination, i: u32, j: u32) -> bool
-    requires { (i < length part.now.local.points) × (j < length part.now.local.points) }
-    ensures { result ≡ is_pair_at part.now i j }
+pub(crate) fn is_pair(elimination: &Elimination, i: u32, j: u32) -> bool
+    requires { (i < length elimination.now.local.points) × (j < length elimination.now.local.points) }
+    ensures { result ≡ is_pair_at elimination.now i j }
 {
-    let local = part.local();
-    i != j && !local.is_private(i) && !local.is_private(j) && part.is_joined(i, j)
+    let local = elimination.local();
+    i != j && !local.is_private(i) && !local.is_private(j) && elimination.is_joined(i, j)
 }
 
 // The entry from one place to another.
-fn entry(part: &Elimination, i: u32, j: u32) -> SummaryEntry
-    requires within { (i < length part.now.local.points) × (j < length part.now.local.points) }
+fn entry(elimination: &Elimination, i: u32, j: u32) -> SummaryEntry
+    requires within { (i < length elimination.now.local.points) × (j < length elimination.now.local.points) }
     requires apart { i ≢ j }
-    ensures { result ≡ entry_at part.now i j }
+    ensures { result ≡ entry_at elimination.now i j }
 {
-    let local = part.local();
+    let local = elimination.local();
     SummaryEntry {
         from: local.point(i),
         to: local.point(j),
-        weight: entry_weight(local.horizon(), part.weight(i, j)),
+        weight: entry_weight(local.horizon(), elimination.weight(i, j)),
     }
 }
 

@@ -12,26 +12,26 @@ use dist_rows::{Rows, Via};
 use std::alloc::Global;
 use stn_model::OutOfMemory;
 
-/// A part of a walk whose arcs are still to be found: those that the cell from one place to another stands for.
+/// A segment of a walk whose arcs are still to be found: those that the cell from one place to another stands for.
 #[derive(Clone, Copy)]
-pub struct Part {
+pub struct Segment {
     from: u32,
     to: u32,
 }
 
-// Ends the walk with the arc of a part, or puts on top of the stack the two parts that its weight is the sum of.
-fn unfold_part<R: Rows>(
+// Ends the walk with the arc of a segment, or puts on top of the stack the two segments that its weight is the sum of.
+fn unfold_segment<R: Rows>(
     rows: &R,
-    part: Part,
+    segment: Segment,
     walk: &mut Vec<u32>,
-    ahead: &mut Vec<Part>,
+    ahead: &mut Vec<Segment>,
 ) -> Result<(), OutOfMemory>
-    requires within { (part.from < R.places rows.now) × (part.to < R.places rows.now) }
-    requires unfolds { unfolds_at (R.at rows.now part.from part.to) ≡ true }
-    ensures { OnOk result (IfSome (R.at rows.now part.from part.to)
-        (λ c. Unfolds part c.via walk.old.items walk.new.items ahead.old.items ahead.new.items)) }
+    requires within { (segment.from < R.places rows.now) × (segment.to < R.places rows.now) }
+    requires unfolds { unfolds_at (R.at rows.now segment.from segment.to) ≡ true }
+    ensures { OnOk result (IfSome (R.at rows.now segment.from segment.to)
+        (λ c. Unfolds segment c.via walk.old.items walk.new.items ahead.old.items ahead.new.items)) }
 {
-    let Some(cell) = rows.get(part.from, part.to) else {
+    let Some(cell) = rows.get(segment.from, segment.to) else {
         unreachable!()
     };
     if let Via::Given(number) = cell.via {
@@ -41,12 +41,12 @@ fn unfold_part<R: Rows>(
     let Via::Through(middle) = cell.via else {
         unreachable!()
     };
-    ahead.push(Part {
+    ahead.push(Segment {
         from: middle,
-        to: part.to,
+        to: segment.to,
     })?;
-    ahead.push(Part {
-        from: part.from,
+    ahead.push(Segment {
+        from: segment.from,
         to: middle,
     })?;
     Ok(())
@@ -66,9 +66,9 @@ impl Elimination {
     {
         let mut walk = Vec::new(alloc);
         // A stack of its own, since on a chain of points a function that calls itself would be thousands of calls deep.
-        let mut ahead = vec![in alloc; Part { from, to }]?;
-        while let Some(part) = ahead.pop() {
-            unfold_part(&self.rows, part, &mut walk, &mut ahead)?;
+        let mut ahead = vec![in alloc; Segment { from, to }]?;
+        while let Some(segment) = ahead.pop() {
+            unfold_segment(&self.rows, segment, &mut walk, &mut ahead)?;
         }
         Ok(walk)
     }

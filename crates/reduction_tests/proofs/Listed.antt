@@ -13,8 +13,8 @@ use Rattle.elim_step.specs.Eliminated.{point_at}
 use Rattle.private_elim.specs.Locals.{LocalView, IsLocal, is_private_in, place_in, private_at, passes_at, arcs_in, IsWindowOf}
 use Rattle.private_elim.specs.ReducedViews.{ReducedView, entry_in, IsWeightBetween}
 use Rattle.private_elim.proofs.Basics.{in_at}
-use Rattle.private_elim.proofs.Choices.{private_placed}
-use Rattle.private_elim.proofs.Places.{place_found}
+use Rattle.private_elim.proofs.taking.Choices.{private_placed}
+use Rattle.private_elim.proofs.locals.Places.{place_found}
 
 is_in-push : (xs : List ℕ) (x q : ℕ) → is_in (xs ++ x ∷ []) q ≡ (is_in xs q || (q == x))
 is_in-push [] x q = refl

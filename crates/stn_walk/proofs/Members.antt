@@ -1,12 +1,14 @@
--- Membership in a list of numbers.
+-- Membership in a list of numbers, and what holds of each item.
 --   is_in-first, is_in-rest, is_in-behind   of the first, of the others, and of what follows a part
 --   is_in-push, is_in-maybe                 of one item more at the end, always or where it is wanted
 --   is_in-next, is_in-cases                 of a prefix with its next item
 --   is_in-take, is_in-prefix                a prefix has no more
 --   is_in-at, is_in-apart                   each item is in it; members differ from what is not in it
+--   AllByRecursion-append                   of one list after another
 use Rattle.std.proofs.Common.{zero, suc, ◌≡◌, ◌≢◌, ℕ, ◌+◌, ◌<◌, List, [], ◌∷◌, ◌++◌, Bool, true, false, ◌||◌, ◌&&◌, ap, sym, ◌∙◌, refl, length, take}
 use Rattle.std.proofs.Common.{get_or, arith, append-nil, inl, inr}
 use Rattle.std.specs.Prelude.{◌==◌, if◌then◌else◌}
+use Rattle.std.specs.List.{AllByRecursion}
 use Rattle.std.proofs.Math.Bool.{or-true, or-false, or_comm}
 use Rattle.std.proofs.lemmas.Bool.{eq-eqb, ne_eqb, or_cases, false≢true}
 use Rattle.std.proofs.lemmas.Bool.Decides.{nat_tests}
@@ -78,3 +80,8 @@ is_in-cases {P} q xs n low here in_prefix last =
       | inl before ↦ in_prefix before
       | inr same ↦ last (grind (arith, nat_tests))
     ]
+
+-- what holds of each item of two lists holds of each of both in turn
+pub AllByRecursion-append : {X : Type 0} (P : X → Type 0) (xs ys : List X) → AllByRecursion P xs → AllByRecursion P ys → AllByRecursion P (xs ++ ys)
+AllByRecursion-append P [] ys h g = g
+AllByRecursion-append P (x ∷ xs) ys h g = (h.0, AllByRecursion-append P xs ys h.1 g)

@@ -5,8 +5,8 @@ use Rattle.std.proofs.lemmas.List.{get_or_default}
 use Rattle.elim_step.specs.declared.summary.SummaryEntry.{SummaryEntry}
 use Rattle.elim_step.specs.Summaries.{is_valid}
 use Rattle.elim_step.specs.Eliminated.{point_at}
-use Rattle.private_elim.proofs.Bounds.{room-between}
-use Rattle.private_elim.proofs.Entries.{valid_at, valid_light, valid_differ, given_same, given_more}
+use Rattle.private_elim.proofs.sweep.Bounds.{room-between}
+use Rattle.private_elim.proofs.summary.Entries.{valid_at, valid_light, valid_differ, given_same, given_more}
 use Rattle.private_elim.proofs.back_start.add_entry.Goals as goal
 
 -- the entry that is read
@@ -18,7 +18,8 @@ returns-in_default-clause-given c =
     let es = c.args.entries.now in
     let n = c.args.n in
     let e : SummaryEntry = slice_index_or es n no_entry in
-    given_same c.args.local.now c.requires.known es c.requires.valid n e c.requires.within (get_or_default es n e no_entry c.requires.within) _ c.requires.given
+    given_same c.args.local.now c.requires.known es c.requires.valid n e c.requires.within
+    (get_or_default es n e no_entry c.requires.within) _ c.requires.given
     (λ p q seen from to. c.in_default.ensures.none p seen.from_within seen.from_seen from)
 
 pub returns-in_default-seen_place-clause-given : goal.returns-in_default-seen_place-clause-given
@@ -26,11 +27,13 @@ returns-in_default-seen_place-clause-given c =
     let es = c.args.entries.now in
     let n = c.args.n in
     let e : SummaryEntry = slice_index_or es n no_entry in
-    given_same c.args.local.now c.requires.known es c.requires.valid n e c.requires.within (get_or_default es n e no_entry c.requires.within) _ c.requires.given
+    given_same c.args.local.now c.requires.known es c.requires.valid n e c.requires.within
+    (get_or_default es n e no_entry c.requires.within) _ c.requires.given
     (λ p q seen from to. c.in_default-seen_place.ensures.none q seen.to_within seen.to_seen to)
 
 -- the places of its points differ
-places_differ : (points : List ℕ) (e : SummaryEntry) (from to : ℕ) → is_valid e ≡ true → point_at points from ≡ e.from.0 → point_at points to ≡ e.to.0 → from ≢ to
+places_differ : (points : List ℕ) (e : SummaryEntry) (from to : ℕ) → is_valid e ≡ true → point_at points from ≡ e.from.0 → point_at points to ≡ e.to.0
+    → from ≢ to
 places_differ points e from to valid starts ends same = valid_differ e valid (sym starts ∙ ap (point_at points) same ∙ ends)
 
 pub lower-requires-clause-apart : goal.lower-requires-clause-apart
@@ -47,7 +50,8 @@ lower-requires-clause-room c =
     let n = c.args.n in
     let e : SummaryEntry = slice_index_or es n no_entry in
     let valid = valid_at es n e c.requires.valid c.requires.within (get_or_default es n e no_entry c.requires.within) in
-    let differ = places_differ c.args.local.now.points e c.in-Some.from c.in-Some-seen_place.to valid c.in-Some.ensures.some.2 c.in-Some-seen_place.ensures.some.2 in
+    let differ =
+    places_differ c.args.local.now.points e c.in-Some.from c.in-Some-seen_place.to valid c.in-Some.ensures.some.2 c.in-Some-seen_place.ensures.some.2 in
     room-between c.args.finals.now.size c.in-Some.from c.in-Some-seen_place.to
     (omega (arith, c.in-Some.ensures.some.0, c.requires.size)) (omega (arith, c.in-Some-seen_place.ensures.some.0, c.requires.size)) differ
 

@@ -1,8 +1,8 @@
 use Rattle.std.proofs.Common.{◌<◌, sym, subst, ◌∙◌, arith}
 use Rattle.std.specs.List.{AllPairs}
 use Rattle.std.proofs.lemmas.List.{take_all}
-use Rattle.private_elim.proofs.Bounds.{pairs-from_rises}
-use Rattle.private_elim.proofs.LocalFacts.{rises}
+use Rattle.private_elim.proofs.sweep.Bounds.{pairs-from_rises}
+use Rattle.private_elim.proofs.locals.LocalFacts.{rises}
 use Rattle.private_elim.proofs.back_start.points_by_place.Goals as goal
 
 pub returns-clause-rising : goal.returns-clause-rising

@@ -1,8 +1,8 @@
 use Rattle.std.proofs.Common.{sym, ap, ◌∙◌}
 use Rattle.std.proofs.lemmas.Bool.{false≢true}
 use Rattle.private_elim.specs.Locals.{private_at}
-use Rattle.private_elim.proofs.Places.{place_found, place_missing}
-use Rattle.private_elim.proofs.Takes.{local_ground}
+use Rattle.private_elim.proofs.locals.Places.{place_found, place_missing}
+use Rattle.private_elim.proofs.taking.Takes.{local_ground}
 use Rattle.private_elim.proofs.back_start.seen_place.Goals as goal
 
 pub returns-in_default-clause-none : goal.returns-in_default-clause-none

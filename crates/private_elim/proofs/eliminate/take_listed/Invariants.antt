@@ -4,6 +4,6 @@ use Rattle.private_elim.proofs.eliminate.take_listed.Given as goal
 
 abbrev pub invariant-loop-n : goal.invariant-loop-n
 invariant-loop-n g l = record {
-  local : l.part.local ≡ l.fn.part.local;
-  taken : l.part.order ≡ take l.n (map (λ (p : PointId). p.0) l.order);
+  local : l.elimination.local ≡ l.fn.elimination.local;
+  taken : l.elimination.order ≡ take l.n (map (λ (p : PointId). p.0) l.order);
 }

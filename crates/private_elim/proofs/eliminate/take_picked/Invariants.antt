@@ -5,9 +5,10 @@ use Rattle.private_elim.proofs.eliminate.take_picked.Given as goal
 
 abbrev pub invariant-taking : goal.invariant-taking
 invariant-taking g l = record {
-  local : l.part.local ≡ l.fn.part.local;
-  picked : ArePicked (λ degree number answer. (goal.Fn-dyn g).post (l.picker.key.vtable, l.picker.key.value) (degree, (number, tt)) answer) l.part.local (reverse l.part.order);
+  local : l.elimination.local ≡ l.fn.elimination.local;
+  picked : ArePicked (λ degree number answer. (goal.Fn-dyn g).post (l.picker.key.vtable, l.picker.key.value) (degree, (number, tt)) answer)
+      l.elimination.local (reverse l.elimination.order);
 }
 
 abbrev pub decreases-taking : goal.decreases-taking
-decreases-taking g l = 4096 - length l.part.order
+decreases-taking g l = 4096 - length l.elimination.order

@@ -4,7 +4,7 @@ use Rattle.std.proofs.lemmas.List.{take_all}
 use Rattle.stn_walk.specs.Eliminations.{is_in}
 use Rattle.stn_walk.proofs.Members.{is_in-at}
 use Rattle.private_elim.specs.Degrees.{degree_of}
-use Rattle.private_elim.proofs.Counts.{recounted}
+use Rattle.private_elim.proofs.taking.Counts.{recounted}
 use Rattle.private_elim.proofs.elimination.recount.Goals as goal
 
 pub count-requires-clause-within : goal.count-requires-clause-within
@@ -28,7 +28,8 @@ loop-p-preserved c =
     record {
       len = length-set c.loop-p.degrees.items (get_or places n 0) c.count.result ∙ len;
       each = λ p. ap (λ x. get_or (set c.loop-p.degrees.items (get_or places n 0) x) p 0) c.count.ensures
-          ∙ recounted c.loop-p.degrees.items places n degree (λ p. get_or c.args.degrees.now.items p 0) (search rules) (omega (arith)) c.loop-p.invariant.each p;
+          ∙ recounted c.loop-p.degrees.items places n degree (λ p. get_or c.args.degrees.now.items p 0) (search rules)
+          (omega (arith)) c.loop-p.invariant.each p;
     }
 
 pub returns-clause-each : goal.returns-clause-each

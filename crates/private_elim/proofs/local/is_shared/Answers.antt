@@ -1,4 +1,4 @@
-use Rattle.private_elim.proofs.SharedPoints.{unshared}
+use Rattle.private_elim.proofs.locals.SharedPoints.{unshared}
 use Rattle.private_elim.proofs.local.is_shared.Goals as goal
 
 pub returns-in_default : goal.returns-in_default

@@ -2,8 +2,8 @@ use Rattle.std.proofs.Common.{◌≡◌, ap, sym, ◌∙◌, arith}
 use Rattle.dist_rows.specs.Matrix.{cell_at}
 use Rattle.private_elim.specs.declared.local.LocalArc.{LocalArc}
 use Rattle.private_elim.specs.Locals.{local_arc_at}
-use Rattle.private_elim.proofs.Places.{place_found}
-use Rattle.private_elim.proofs.Laying.{from_placed, to_placed, ends_apart, matrix_room, bound_range, lowered_weight}
+use Rattle.private_elim.proofs.locals.Places.{place_found}
+use Rattle.private_elim.proofs.taking.Laying.{from_placed, to_placed, ends_apart, matrix_room, bound_range, lowered_weight}
 use Rattle.std.proofs.lemmas.Int.{ints}
 use Rattle.private_elim.proofs.start.lay_arc.Goals as goal
 
@@ -13,7 +13,8 @@ unreachable-requires c =
 
 pub unreachable-requires-in_default-place_of : goal.unreachable-requires-in_default-place_of
 unreachable-requires-in_default-place_of c =
-    to_placed c.args.local.now c.size-places.ensures.valid c.args.k c.requires.within (rw c.arc.ensures at (sym c.place_of-2.ensures ∙ c.in_default-place_of.is))
+    to_placed c.args.local.now c.size-places.ensures.valid c.args.k c.requires.within
+    (rw c.arc.ensures at (sym c.place_of-2.ensures ∙ c.in_default-place_of.is))
 
 pub lower-requires-clause-apart : goal.lower-requires-clause-apart
 lower-requires-clause-apart c =
@@ -24,7 +25,8 @@ pub lower-requires-clause-room : goal.lower-requires-clause-room
 lower-requires-clause-room c =
     let v = c.args.local.now in
     let s = (place_found v.points (local_arc_at v.arcs c.args.k).arc.from.0 c.in-Some.from (rw c.arc.ensures at (sym c.place_of.ensures ∙ c.in-Some.is))).0 in
-    let e = (place_found v.points (local_arc_at v.arcs c.args.k).arc.to.0 c.in-Some-place_of.to (rw c.arc.ensures at (sym c.place_of-2.ensures ∙ c.in-Some-place_of.is))).0 in
+    let e = (place_found v.points (local_arc_at v.arcs c.args.k).arc.to.0 c.in-Some-place_of.to
+    (rw c.arc.ensures at (sym c.place_of-2.ensures ∙ c.in-Some-place_of.is))).0 in
     let size = c.requires.size in
     matrix_room c.args.rows.now.size c.in-Some.from c.in-Some-place_of.to (omega arith) (omega arith)
     (ends_apart v c.size-places.ensures.valid c.args.k c.requires.within c.in-Some.from c.in-Some-place_of.to
@@ -34,7 +36,8 @@ pub join-requires : goal.join-requires
 join-requires c =
     let v = c.args.local.now in
     let s = (place_found v.points (local_arc_at v.arcs c.args.k).arc.from.0 c.in-Some.from (rw c.arc.ensures at (sym c.place_of.ensures ∙ c.in-Some.is))).0 in
-    let e = (place_found v.points (local_arc_at v.arcs c.args.k).arc.to.0 c.in-Some-place_of.to (rw c.arc.ensures at (sym c.place_of-2.ensures ∙ c.in-Some-place_of.is))).0 in
+    let e = (place_found v.points (local_arc_at v.arcs c.args.k).arc.to.0 c.in-Some-place_of.to
+    (rw c.arc.ensures at (sym c.place_of-2.ensures ∙ c.in-Some-place_of.is))).0 in
     let size = c.requires.joins_size in
     (omega arith, omega arith)
 
@@ -51,6 +54,7 @@ returns-clause-arc c =
       is_start = (rw c.arc.ensures at (sym c.place_of.ensures ∙ c.in-Some.is));
       is_end = (rw c.arc.ensures at (sym c.place_of-2.ensures ∙ c.in-Some-place_of.is));
       cells = λ p q. c.lower.ensures.cells p q
-          ∙ lowered_weight c.in-Some.from c.in-Some-place_of.to c.args.k _ (local_arc_at v.arcs c.args.k).arc.bound (cell_at c.args.rows.now.size c.args.rows.now.slots.items) (omega (arith, ints)) p q;
+          ∙ lowered_weight c.in-Some.from c.in-Some-place_of.to c.args.k _ (local_arc_at v.arcs c.args.k).arc.bound
+          (cell_at c.args.rows.now.size c.args.rows.now.slots.items) (omega (arith, ints)) p q;
       joins = c.join.ensures.pairs;
     }

@@ -4,4 +4,4 @@ use Rattle.private_elim.specs.SummaryRows.{rows_below}
 use Rattle.private_elim.proofs.summarise.entries_of.Given as goal
 
 abbrev pub invariant-loop-i : goal.invariant-loop-i
-invariant-loop-i l = l.entries.items ≡ rows_below l.part l.i
+invariant-loop-i l = l.entries.items ≡ rows_below l.elimination l.i

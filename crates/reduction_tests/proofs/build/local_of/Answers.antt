@@ -1,6 +1,6 @@
 use Rattle.std.proofs.Common.{◌≡◌, ap, sym, ◌∙◌}
 use Rattle.private_elim.specs.Locals.{LocalView, local_of}
-use Rattle.private_elim.proofs.LocalFacts.{numbered_of_net}
+use Rattle.private_elim.proofs.locals.LocalFacts.{numbered_of_net}
 use Rattle.reduction_tests.proofs.build.local_of.Goals as goal
 
 pub returns : goal.returns

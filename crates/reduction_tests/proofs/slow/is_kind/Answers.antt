@@ -1,5 +1,5 @@
 use Rattle.std.proofs.Common.{◌≡◌, sym, ◌∙◌}
-use Rattle.private_elim.proofs.Places.{place_found}
+use Rattle.private_elim.proofs.locals.Places.{place_found}
 use Rattle.reduction_tests.proofs.slow.is_kind.Goals as goal
 
 pub is_private-requires : goal.is_private-requires

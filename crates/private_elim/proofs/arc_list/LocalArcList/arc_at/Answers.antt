@@ -1,6 +1,6 @@
 use Rattle.std.proofs.Common.{sym, subst}
 use Rattle.stn_model.specs.Valid.{IsArcWithin}
-use Rattle.private_elim.proofs.Within.{arc_within}
+use Rattle.private_elim.proofs.locals.Within.{arc_within}
 use Rattle.private_elim.proofs.arc_list.LocalArcList.arc_at.Goals as goal
 
 pub returns-clause-within : goal.returns-clause-within

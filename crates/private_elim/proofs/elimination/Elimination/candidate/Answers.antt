@@ -7,7 +7,7 @@ use Rattle.elim_step.specs.Eliminates.{remains, count_below}
 use Rattle.elim_step.specs.Eliminated.{point_at}
 use Rattle.elim_step.specs.JoinedPlaces.{is_joined}
 use Rattle.private_elim.specs.Picked.{IsDegree}
-use Rattle.private_elim.proofs.DegreeFacts.{degree_is}
+use Rattle.private_elim.proofs.taking.DegreeFacts.{degree_is}
 use Rattle.private_elim.proofs.elimination.Elimination.candidate.Goals as goal
 
 pub returns : goal.returns
@@ -23,7 +23,9 @@ returns c =
       degree = λ fresh.
           let left = h.taken.cells.remaining k within ∙ ap not fresh in
           let len = h.degrees_len in
-          let counted = c.index.ensures ∙ get_or_default e.degrees.items k c.index.result.now 0 (omega arith) ∙ h.degrees k left ∙ ap (count_below (λ q. remains e.remain.items q && is_joined e.joins k q)) h.joins_size in
+          let counted =
+          c.index.ensures ∙ get_or_default e.degrees.items k c.index.result.now 0 (omega arith) ∙ h.degrees k left
+          ∙ ap (count_below (λ q. remains e.remain.items q && is_joined e.joins k q)) h.joins_size in
           subst (IsDegree v (reverse order) (point_at v.points k)) (sym counted)
           (degree_is v order (cell_at e.rows.size e.rows.slots.items) (is_joined e.joins) e.remain.items h.taken k within fresh);
     })

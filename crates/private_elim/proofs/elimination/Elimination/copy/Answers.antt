@@ -9,7 +9,8 @@ pub invariant_of-result : goal.invariant_of-result
 invariant_of-result c =
     let e = c.self.inside in
     let h = c.self.invariant in
-    let cells : cell_at c.in_ok-rows.rows.size c.in_ok-rows.rows.slots.items ≡ cell_at e.rows.size e.rows.slots.items = (λ t p q. c.in_ok-rows.ensures.cells p q t) in
+    let cells : cell_at c.in_ok-rows.rows.size c.in_ok-rows.rows.slots.items ≡ cell_at e.rows.size e.rows.slots.items =
+    (λ t p q. c.in_ok-rows.ensures.cells p q t) in
     let joins : is_joined c.in_ok-joins.joins ≡ is_joined e.joins = (λ t p q. c.in_ok-joins.ensures.pairs p q t) in
     let size : c.in_ok-joins.joins.size ≡ e.joins.size = c.in_ok-joins.ensures.size in
     let local : c.in_ok-local.local ≡ e.local = c.in_ok-local.ensures in

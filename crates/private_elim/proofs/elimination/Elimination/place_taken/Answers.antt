@@ -6,7 +6,7 @@ use Rattle.std.proofs.lemmas.List.Elements.{All-from_recursion}
 use Rattle.stn_model.specs.declared.ids.PointId.{PointId}
 use Rattle.elim_step.specs.Eliminated.{point_at}
 use Rattle.private_elim.specs.Locals.{LocalView, private_at, passes_at, is_private_in}
-use Rattle.private_elim.proofs.Places.{place_found}
+use Rattle.private_elim.proofs.locals.Places.{place_found}
 use Rattle.private_elim.proofs.elimination.Elimination.place_taken.Goals as goal
 
 -- the number that is read is that of the order
@@ -14,7 +14,8 @@ number_at : (order : List PointId) (n : ℕ) (p : PointId) → n < length order 
 number_at order n p lt is = get_or-map (λ q. q.0) order n p 0 lt ∙ ap (λ q. q.0) (sym is)
 
 -- it is private
-private_number : (v : LocalView) (order : List ℕ) (n : ℕ) → AllByRecursion (λ p. is_private_in v p ≡ true) order → n < length order → is_private_in v (point_at order n) ≡ true
+private_number : (v : LocalView) (order : List ℕ) (n : ℕ) → AllByRecursion (λ p. is_private_in v p ≡ true) order → n < length order
+    → is_private_in v (point_at order n) ≡ true
 private_number v order n private lt = All-from_recursion (λ p. is_private_in v p ≡ true) order private n 0 lt
 
 pub unreachable-requires : goal.unreachable-requires

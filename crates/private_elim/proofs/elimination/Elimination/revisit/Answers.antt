@@ -1,5 +1,6 @@
 use Rattle.dist_rows.specs.Matrix.{cell_at}
-use Rattle.private_elim.proofs.SweepTurns.{Turn, turn_of, asks_within, asks_all, asks_some, asks_others, asks_once, asks_out, asks_back, asks_fresh, asks_forward, asks_finals, gives}
+use Rattle.private_elim.proofs.sweep.SweepTurns.{Turn, turn_of, asks_within, asks_all, asks_some, asks_others, asks_once, asks_out, asks_back}
+use Rattle.private_elim.proofs.sweep.SweepTurns.{asks_fresh, asks_forward, asks_finals, gives}
 use Rattle.private_elim.proofs.elimination.Elimination.revisit.Goals as goal
 
 pub revisit_point-requires : goal.revisit_point-requires
@@ -11,7 +12,8 @@ revisit_point-requires g c =
     let later = c.deref-2.result.now in
     let turn : Turn e c.args.n k g.entries size at c.args.done.now.items later =
     turn_of e c.args.n k g.entries size at c.args.done.now.items c.deref.result.now c.in_ok-later.later.items later c.self.invariant
-    (rw (← c.self.view_is) at c.requires.1.0) (rw (← c.self.view_is) at c.place_taken-place.ensures.within) (rw (← c.self.view_is) at c.place_taken-place.ensures.point)
+    (rw (← c.self.view_is) at c.requires.1.0) (rw (← c.self.view_is) at c.place_taken-place.ensures.within)
+    (rw (← c.self.view_is) at c.place_taken-place.ensures.point)
     (rw (← c.self.view_is) at c.requires.1.1.0) (rw (← c.self.view_is) at c.requires.1.1.1) c.deref.ensures.value c.deref-2.ensures.value
     c.in_ok-later.ensures.each c.in_ok-later.ensures.rising c.in_ok-later.ensures.within in
     record {
@@ -36,7 +38,8 @@ returns-clause-swept g c =
     let later = c.deref-2.result.now in
     let turn : Turn e c.args.n k g.entries size at c.args.done.now.items later =
     turn_of e c.args.n k g.entries size at c.args.done.now.items c.deref.result.now c.in_ok-later.later.items later c.self.invariant
-    (rw (← c.self.view_is) at c.requires.1.0) (rw (← c.self.view_is) at c.place_taken-place.ensures.within) (rw (← c.self.view_is) at c.place_taken-place.ensures.point)
+    (rw (← c.self.view_is) at c.requires.1.0) (rw (← c.self.view_is) at c.place_taken-place.ensures.within)
+    (rw (← c.self.view_is) at c.place_taken-place.ensures.point)
     (rw (← c.self.view_is) at c.requires.1.1.0) (rw (← c.self.view_is) at c.requires.1.1.1) c.deref.ensures.value c.deref-2.ensures.value
     c.in_ok-later.ensures.each c.in_ok-later.ensures.rising c.in_ok-later.ensures.within in
     rw (← c.self.view_is) (gives e c.args.n k g.entries size at c.args.done.now.items later turn _ c.revisit_point.ensures.cells)

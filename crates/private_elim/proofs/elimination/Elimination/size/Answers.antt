@@ -1,4 +1,4 @@
-use Rattle.private_elim.proofs.Takes.{facts}
+use Rattle.private_elim.proofs.taking.Takes.{facts}
 use Rattle.private_elim.proofs.elimination.Elimination.size.Goals as goal
 
 pub returns-clause-facts : goal.returns-clause-facts

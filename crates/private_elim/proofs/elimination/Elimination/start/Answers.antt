@@ -6,8 +6,8 @@ use Rattle.elim_step.specs.JoinedPlaces.{is_joined}
 use Rattle.elim_step.proofs.JoinFacts.{joined-apart}
 use Rattle.private_elim.specs.Locals.{LocalView, IsLocal, all_numbered}
 use Rattle.private_elim.specs.Taken.{IsTaken}
-use Rattle.private_elim.proofs.Takes.{in_list}
-use Rattle.private_elim.proofs.Laying.{taken_none}
+use Rattle.private_elim.proofs.taking.Takes.{in_list}
+use Rattle.private_elim.proofs.taking.Laying.{taken_none}
 use Rattle.private_elim.proofs.elimination.Elimination.start.Goals as goal
 
 pub invariant_of-result : goal.invariant_of-result
@@ -18,12 +18,14 @@ invariant_of-result c =
     let numbered : all_numbered v.arcs ≡ true = rw local c.requires in
     let size : c.size-size.result ≡ length v.points = c.size-size.ensures.count ∙ ap (λ (l : LocalView). length l.points) (sym local) in
     let joins_size : c.lay_arcs.new.joins.size ≡ length v.points = c.lay_arcs.ensures.joins_size ∙ c.in_ok-joins.ensures.size ∙ size in
-    let all : c.in_ok-remain.remain.items ≡ replicate (length v.points) true = c.in_ok-remain.ensures.items_if_clones_equal (λ y e. e) ∙ ap (λ n. replicate n true) size in
+    let all : c.in_ok-remain.remain.items ≡ replicate (length v.points) true =
+    c.in_ok-remain.ensures.items_if_clones_equal (λ y e. e) ∙ ap (λ n. replicate n true) size in
     let rows = c.lay_arcs.new.rows in
     let joins = c.lay_arcs.new.joins in
     let many : length c.in_ok-remain.remain.items ≡ length v.points = ap length all ∙ length-replicate (length v.points) true in
     let taken : IsTaken v [] (cell_at rows.size rows.slots.items) (is_joined joins) c.in_ok-remain.remain.items =
-    taken_none v known numbered (cell_at rows.size rows.slots.items) (is_joined joins) c.in_ok-remain.remain.items c.lay_arcs.ensures.laid (joined-apart joins.size joins.bits.items) all in
+    taken_none v known numbered (cell_at rows.size rows.slots.items) (is_joined joins) c.in_ok-remain.remain.items c.lay_arcs.ensures.laid
+    (joined-apart joins.size joins.bits.items) all in
     record {
       square = c.lay_arcs.ensures.size ∙ c.in_ok-rows.ensures.size ∙ size;
       joins_size = joins_size;

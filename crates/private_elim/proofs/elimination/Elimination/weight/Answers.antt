@@ -4,7 +4,7 @@ use Rattle.dist_rows.specs.Matrix.{cell_at, room-from_cell, within-from_room}
 use Rattle.elim_step.specs.JoinedPlaces.{is_joined}
 use Rattle.elim_step.proofs.Whole.{none-from}
 use Rattle.stn_model.specs.declared.ids.PointId.{PointId}
-use Rattle.private_elim.proofs.Takes.{weights_small}
+use Rattle.private_elim.proofs.taking.Takes.{weights_small}
 use Rattle.private_elim.proofs.elimination.Elimination.weight.Goals as goal
 
 pub returns-clause-light : goal.returns-clause-light

@@ -2,7 +2,7 @@ use Rattle.std.proofs.Common.{◌≡◌, ◌∙◌, ◌++◌, length, ap, length
 use Rattle.std.specs.List.{All}
 use Rattle.private_elim.specs.Locals.{window_arcs, IsWindowOf}
 use Rattle.private_elim.specs.Views.{local_view}
-use Rattle.private_elim.proofs.Windows.{IsLocal-narrowed, IsLocal-same, length-window_arcs}
+use Rattle.private_elim.proofs.locals.Windows.{IsLocal-narrowed, IsLocal-same, length-window_arcs}
 use Rattle.private_elim.proofs.local.Local.narrowed.Goals as goal
 
 pub invariant_of-result : goal.invariant_of-result

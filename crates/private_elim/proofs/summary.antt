@@ -1,0 +1,5 @@
+-- Entries of a summary.
+pub mod RowFacts
+pub mod SumsUp
+pub mod EntryLookups
+pub mod Entries

@@ -1,0 +1,12 @@
+-- Taking private points one by one.
+pub mod TakenFacts
+pub mod Forwards
+pub mod OriginFacts
+pub mod Counts
+pub mod Takes
+pub mod Laying
+pub mod DegreeFacts
+pub mod CandidateFacts
+pub mod Choices
+pub mod Answered
+pub mod Orders

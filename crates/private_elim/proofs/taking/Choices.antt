@@ -1,0 +1,210 @@
+-- Which point is taken next, and when none is left.
+use Rattle.std.proofs.Common.{zero, suc, ◌≡◌, ◌≢◌, ℕ, ◌<◌, ◌≤◌, List, [], ◌∷◌, ◌++◌, Bool, true, false, ◌&&◌, ◌||◌, not, Option, Some, None, ap, sym}
+use Rattle.std.proofs.Common.{◌∙◌, refl, arith, subst, length, get_or, take, map}
+use Rattle.std.proofs.lemmas.Bool.{and_parts, not-true}
+use Rattle.std.specs.Prelude.{◌==◌, if◌then◌else◌, filter, reverse, slice_index, slice_index_or}
+use Rattle.std.specs.List.{AllByRecursion}
+use Rattle.std.proofs.lemmas.Bool.Decides.{nat_tests}
+use Rattle.std.proofs.lemmas.List.{length-map, get_or-map, get_or-take, length-take-le, length-reverse}
+use Rattle.stn_model.specs.declared.ids.PointId.{PointId}
+use Rattle.stn_model.specs.Walks.{AllDifferent}
+use Rattle.stn_walk.specs.Eliminations.{is_in}
+use Rattle.stn_walk.proofs.Different.{few_different, different_at}
+use Rattle.stn_walk.proofs.Joins.{is_in-reverse}
+use Rattle.elim_step.specs.declared.pick.Candidate.{Candidate}
+use Rattle.elim_step.specs.Picks.{candidate_at}
+use Rattle.private_elim.specs.Locals.{LocalView, IsLocal, is_private_in, place_in, private_at, passes_at}
+use Rattle.private_elim.specs.Taken.{TakenView, HasTaken, StopsAt}
+use Rattle.private_elim.specs.Picked.{AreCandidates, IsPicked, ArePicked}
+use Rattle.private_elim.specs.Candidates.{is_left}
+use Rattle.private_elim.specs.declared.outcome.PrivateOutcome.{PrivateOutcome}
+use Rattle.private_elim.specs.declared.outcome.PrivateOutcome.TheVariants.{Reduced, Conflict}
+use Rattle.private_elim.specs.Outcomes.{IsNext, IsReducedFrom, IsConflictFrom, IsListedOutcome, IsPickedOutcome, IsReducedWith}
+use Rattle.private_elim.proofs.locals.LocalFacts.{points_small}
+use Rattle.private_elim.proofs.taking.Takes.{order_push}
+use Rattle.private_elim.proofs.locals.Places.{place_found}
+
+-- a private point has a place
+pub private_placed : (v : LocalView) (p : ℕ) → is_private_in v p ≡ true → (k : ℕ) × (place_in v.points p ≡ Some k)
+private_placed v p h = by (place_in v.points p) refl where
+  by : (o : Option ℕ) → place_in v.points p ≡ o → (k : ℕ) × (place_in v.points p ≡ Some k)
+  by None e = absurd (let f : is_private_in v p ≡ false = ap (passes_at (private_at v)) e in cc)
+  by (Some k) e = (k, e)
+
+private_below : (v : LocalView) → IsLocal v → (p : ℕ) → is_private_in v p ≡ true → p < 4096
+private_below v h p private =
+    let k = private_placed v p private in
+    let found = place_found v.points p k.0 k.1 in
+    let low = points_small v h k.0 0 found.0 in
+    let is = found.1 in
+    omega arith
+
+-- at most 4096 points are taken
+pub few_taken : (t : TakenView) → HasTaken t → length t.order ≤ 4096
+few_taken t h = few_different 4096 t.order h.once (all t.order h.private) where
+  all : (xs : List ℕ) → AllByRecursion (λ p. is_private_in t.local p ≡ true) xs → AllByRecursion (λ p. p < 4096) xs
+  all [] a = tt
+  all (x ∷ xs) a = (private_below t.local h.known x a.0, all xs a.1)
+
+-- what a filter lets through passes
+filter_passes : (test : ℕ → Bool) (xs : List ℕ) (k : ℕ) → k < length (filter test xs) → test (get_or (filter test xs) k 0) ≡ true
+filter_passes test [] k lt = absurd (omega arith)
+filter_passes test (x ∷ xs) k lt = by (filter_passes test xs) (test x) refl k lt where
+  by : ((k : ℕ) → k < length (filter test xs) → test (get_or (filter test xs) k 0) ≡ true) → (b : Bool) → test x ≡ b → (k : ℕ)
+      → k < length (if b then x ∷ filter test xs else filter test xs) → test (get_or (if b then x ∷ filter test xs else filter test xs) k 0) ≡ true
+  by rest true e zero lt = e
+  by rest true e (suc k) lt = rest k (omega arith)
+  by rest false e k lt = rest k lt
+
+-- where a filter lets nothing through, nothing passes
+filter_none : (test : ℕ → Bool) (xs : List ℕ) → length (filter test xs) ≡ 0 → (k : ℕ) → k < length xs → test (get_or xs k 0) ≡ false
+filter_none test [] none k lt = absurd (omega arith)
+filter_none test (x ∷ xs) none k lt = by (filter_none test xs) (test x) refl none k lt where
+  by : (length (filter test xs) ≡ 0 → (k : ℕ) → k < length xs → test (get_or xs k 0) ≡ false) → (b : Bool) → test x ≡ b
+      → length (if b then x ∷ filter test xs else filter test xs) ≡ 0 → (k : ℕ) → k < length (x ∷ xs) → test (get_or (x ∷ xs) k 0) ≡ false
+  by rest true e none k lt = absurd (omega arith)
+  by rest false e none zero lt = e
+  by rest false e none (suc k) lt = rest none k (omega arith)
+
+-- a candidate is a private point that is not taken
+pub candidate_left : (v : LocalView) (taken : List ℕ) (cs : List Candidate) (k : ℕ) → AreCandidates v taken cs → k < length cs
+    → is_left v taken (candidate_at cs k).number ≡ true
+candidate_left v taken cs k are lt =
+    let many : length (map (λ (c : Candidate). c.number) cs) ≡ length cs = length-map cs (λ c. c.number) in
+    let same = ap (λ (xs : List ℕ). length xs) are.numbers in
+    let here : get_or (map (λ (c : Candidate). c.number) cs) k 0 ≡ (candidate_at cs k).number =
+    get_or-map (λ (c : Candidate). c.number) cs k (record { degree = 0; number = 0 }) 0 lt in
+    ap (is_left v taken) (sym here ∙ ap (λ xs. get_or xs k 0) are.numbers) ∙ filter_passes (is_left v taken) v.points k (omega arith)
+
+pub candidate_placed : (v : LocalView) (taken : List ℕ) (cs : List Candidate) (k : ℕ) → AreCandidates v taken cs → k < length cs
+    → place_in v.points (candidate_at cs k).number ≡ None → ⊥
+candidate_placed v taken cs k are lt none =
+    let b = and_parts (is_private_in v (candidate_at cs k).number) (not (is_in taken (candidate_at cs k).number)) (candidate_left v taken cs k are lt) in
+    let p = private_placed v (candidate_at cs k).number b.0 in
+    let e = p.1 in
+    absurd (cc)
+
+pub candidate_next : (t : TakenView) (cs : List Candidate) (k place : ℕ) → AreCandidates t.local (reverse t.order) cs → k < length cs
+    → place_in t.local.points (candidate_at cs k).number ≡ Some place
+    → IsNext t (candidate_at cs k).number place
+candidate_next t cs k place are lt e =
+    let v = t.local in
+    let p = (candidate_at cs k).number in
+    let b = and_parts (is_private_in v p) (not (is_in (reverse t.order) p)) (candidate_left v (reverse t.order) cs k are lt) in
+    let found = place_found v.points p place e in
+    record { within = found.0; is = found.1; private = b.0; left = not-true (is_in (reverse t.order) p) b.1 }
+
+-- where there is no candidate all private points are taken
+pub none_left : (v : LocalView) (taken : List ℕ) (cs : List Candidate) → AreCandidates v taken cs → length cs ≡ 0 → (p : ℕ) → is_private_in v p ≡ true
+    → is_in taken p ≡ true
+none_left v taken cs are none p private =
+    let many : length (map (λ (c : Candidate). c.number) cs) ≡ length cs = length-map cs (λ c. c.number) in
+    let same = ap (λ (xs : List ℕ). length xs) are.numbers in
+    let placed = private_placed v p private in
+    let found = place_found v.points p placed.0 placed.1 in
+    let fails : is_left v taken (get_or v.points placed.0 0) ≡ false = filter_none (is_left v taken) v.points (omega arith) placed.0 found.0 in
+    let here : is_left v taken p ≡ false = ap (is_left v taken) (sym found.1) ∙ fails in
+    by (is_in taken p) (rw private at here) where
+      by : (b : Bool) → (true && not b) ≡ false → b ≡ true
+      by true h = refl
+      by false h = absurd (cc)
+
+-- the next point of an order in which no point stands twice
+not_before : (xs : List ℕ) (n : ℕ) → n < length xs → AllDifferent xs → is_in (take n xs) (get_or xs n 0) ≡ false
+not_before xs n lt once = by (take n xs) (λ k lk e. different_at xs once n k lt (less k lk) (prefix k lk ∙ e)) where
+  less : (k : ℕ) → k < length (take n xs) → k < n
+  less k lk = let e = length-take-le n xs (omega arith) in omega arith
+
+  prefix : (k : ℕ) → k < length (take n xs) → get_or xs k 0 ≡ get_or (take n xs) k 0
+  prefix k lk = sym (get_or-take n xs k 0 (less k lk))
+
+  by : (ys : List ℕ) → ((k : ℕ) → k < length ys → get_or ys k 0 ≡ get_or xs n 0 → ⊥) → is_in ys (get_or xs n 0) ≡ false
+  by [] apart = refl
+  by (y ∷ ys) apart =
+      let ne : get_or xs n 0 ≢ y = λ e. apart 0 (omega arith) (sym e) in
+      let off : (get_or xs n 0 == y) ≡ false = grind (arith, nat_tests) in
+      let rest = by ys (λ k lk e. apart (suc k) (omega arith) e) in
+      (λ t. rest t || off t)
+
+-- the place of the next point of an order
+pub listed_next : (t : TakenView) (order : List PointId) (n place : ℕ) → n < length order → t.order ≡ take n (map (λ (p : PointId). p.0) order)
+    → AllByRecursion (λ (p : PointId). is_private_in t.local p.0 ≡ true) order → AllDifferent (map (λ (p : PointId). p.0) order)
+    → place_in t.local.points (slice_index_or order n (record { 0 = 0 })).0 ≡ Some place → IsNext t (slice_index (map (λ (p : PointId). p.0) order) n) place
+listed_next t order n place lt taken private once e =
+    let xs = map (λ (p : PointId). p.0) order in
+    let many : length xs ≡ length order = length-map order (λ (p : PointId). p.0) in
+    let here : get_or xs n 0 ≡ (slice_index_or order n (record { 0 = 0 })).0 = get_or-map (λ (p : PointId). p.0) order n (record { 0 = 0 }) 0 lt in
+    let found = place_found t.local.points (slice_index_or order n (record { 0 = 0 })).0 place e in
+    let apart : is_in (take n xs) (get_or xs n 0) ≡ false = not_before xs n (omega arith) once in
+    record {
+      within = found.0;
+      is = found.1 ∙ sym here;
+      private = ap (is_private_in t.local) here ∙ each order n lt private;
+      left = is_in-reverse t.order (get_or xs n 0) ∙ ap (λ ys. is_in ys (get_or xs n 0)) taken ∙ apart;
+    } where
+      each : (ps : List PointId) (n : ℕ) → n < length ps → AllByRecursion (λ (p : PointId). is_private_in t.local p.0 ≡ true) ps
+          → is_private_in t.local (slice_index_or ps n (record { 0 = 0 })).0 ≡ true
+      each [] n lt all = absurd (omega arith)
+      each (p ∷ ps) zero lt all = all.0
+      each (p ∷ ps) (suc n) lt all = each ps n (omega arith) all.1
+
+-- the answer for a given order, once all of it is taken
+pub listed_reduced : (v : LocalView) (t : TakenView) (order : List ℕ) (o : PrivateOutcome) → t.local ≡ v → t.order ≡ order → IsReducedFrom t o
+    → IsListedOutcome v order o
+listed_reduced v t order (Reduced r) local is h = rw (sym local, sym is) h
+listed_reduced v t order (Conflict walk place other) local is h = absurd h
+
+-- and where a point of it fails
+pub listed_conflict : (v : LocalView) (t : TakenView) (order : List ℕ) (n : ℕ) (q : ℕ) (o : PrivateOutcome) → t.local ≡ v → n < length order
+    → t.order ≡ take n order
+    → StopsAt t.local (reverse t.order) (slice_index order n) q → IsConflictFrom t q o → IsListedOutcome v order o
+listed_conflict v t order n q (Reduced r) local lt is stops h = absurd h
+listed_conflict v t order n q (Conflict walk place other) local lt is stops h =
+    let many : length t.order ≡ n = ap (λ (xs : List ℕ). length xs) is ∙ length-take-le n order (omega arith) in
+    let at : place ≡ n = h.1 ∙ many in (
+      rw (sym local) h.0,
+      omega arith,
+      rw (at, h.2, sym local, sym is) stops,
+    )
+
+-- the answer for an order that the picker allows, once no private point is left
+pub picked_reduced : (answers : ℕ → ℕ → ℕ → Type 0) (v : LocalView) (t : TakenView) (o : PrivateOutcome) → t.local ≡ v
+    → ArePicked answers t.local (reverse t.order) → IsReducedFrom t o → IsPickedOutcome answers v o
+picked_reduced answers v t (Reduced r) local picked h = (
+  subst (λ w. IsReducedWith w r.order r) local (subst (λ xs. IsReducedWith t.local xs r) (sym h.order_is) h),
+  subst (λ w. ArePicked answers w (reverse r.order)) local (subst (λ xs. ArePicked answers t.local (reverse xs)) (sym h.order_is) picked),
+)
+picked_reduced answers v t (Conflict walk place other) local picked h = absurd h
+
+-- and where the point that was picked fails
+pub picked_conflict : (answers : ℕ → ℕ → ℕ → Type 0) (v : LocalView) (t : TakenView) (p q : ℕ) (o : PrivateOutcome) → t.local ≡ v
+    → ArePicked answers t.local (reverse t.order) → IsPicked answers t.local (reverse t.order) p
+    → StopsAt t.local (reverse t.order) p q → IsConflictFrom t q o → IsPickedOutcome answers v o
+picked_conflict answers v t p q (Reduced r) local picked next stops h = absurd h
+picked_conflict answers v t p q (Conflict walk place other) local picked next stops h = (
+  rw (sym local) h.0,
+  rw (sym local) (record {
+    taken = reverse t.order;
+    picked = picked;
+    many = length-reverse t.order ∙ sym h.1;
+    next = p;
+    next_picked = next;
+    stops = rw h.2 stops;
+  }),
+)
+
+-- the same of a state that is equal
+pub picked_stop : (answers : ℕ → ℕ → ℕ → Type 0) (v : LocalView) (t u : TakenView) (p q : ℕ) (o : PrivateOutcome) → u.local ≡ t.local → u.order ≡ t.order
+    → t.local ≡ v → ArePicked answers t.local (reverse t.order)
+    → IsPicked answers t.local (reverse t.order) p → StopsAt t.local (reverse t.order) p q → IsConflictFrom u q o → IsPickedOutcome answers v o
+picked_stop answers v t u p q o e_local e_order local picked next stops h =
+    let same : u ≡ t = (λ i. record { local = e_local i; order = e_order i }) in
+    picked_conflict answers v t p q o local picked next stops (subst (λ (w : TakenView). IsConflictFrom w q o) same h)
+
+-- one point more was picked
+pub picked_more : (answers : ℕ → ℕ → ℕ → Type 0) (t u : TakenView) (p : ℕ) → u.local ≡ t.local → u.order ≡ t.order ++ p ∷ []
+    → ArePicked answers t.local (reverse t.order)
+    → IsPicked answers t.local (reverse t.order) p → ArePicked answers u.local (reverse u.order)
+picked_more answers t u p local is picked next =
+    subst (λ w. ArePicked answers w (reverse u.order)) (sym local)
+    (subst (ArePicked answers t.local) (sym (ap reverse is ∙ order_push t.order p)) (next, picked))
