@@ -1,5 +1,7 @@
 -- One cell written.
-use Rattle.std.proofs.Common.{zero, suc, ◌≡◌, ◌≢◌, ℕ, ◌+◌, ◌*◌, ◌<◌, List, [], ◌∷◌, Bool, true, false, ◌&&◌, Option, Some, None, get_or, set, ap, sym, ◌∙◌, refl, length, arith, get_or-set_other, get_or-set_same}
+use Rattle.std.proofs.Common.{zero, suc, ◌≡◌, ◌≢◌, ℕ, ◌+◌, ◌*◌, ◌<◌, List, [], ◌∷◌, Bool, true, false, ◌&&◌, Option, Some, None, get_or, set, ap, sym}
+use Rattle.std.proofs.Common.{◌∙◌, refl, length, arith, get_or-set_other, get_or-set_same}
+use Rattle.std.proofs.lemmas.Bool.{and_parts}
 use Rattle.std.proofs.lemmas.Nat.{same_from_place, mul-add-lt}
 use Rattle.dist_rows.specs.Matrix.{within-from_room}
 use Rattle.std.specs.Prelude.{◌==◌, if◌then◌else◌}
@@ -12,14 +14,12 @@ use Rattle.dist_rows.specs.Cells.{lowered, lesser, is_lower}
 use Rattle.dist_rows.specs.Slots.{cell_in, no_slot, holds_light}
 use Rattle.dist_rows.specs.Matrix.{cell_at, in_room}
 
-both : (a b : Bool) → (a && b) ≡ true → (a ≡ true) × (b ≡ true)
-both true b h = (refl, h)
-both false b h = absurd (cc)
-
-pub list_all-set : (slots : List Slot) (k : ℕ) (x : Slot) → list_all holds_light slots ≡ true → holds_light x ≡ true → list_all holds_light (set slots k x) ≡ true
+pub list_all-set : (slots : List Slot) (k : ℕ) (x : Slot) → list_all holds_light slots ≡ true → holds_light x ≡ true
+    → list_all holds_light (set slots k x) ≡ true
 list_all-set [] k x h l = h
-list_all-set (y ∷ ys) zero x h l = ap (λ b. b && list_all holds_light ys) l ∙ (both _ _ h).1
-list_all-set (y ∷ ys) (suc k) x h l = ap (λ b. b && list_all holds_light (set ys k x)) (both (holds_light y) _ h).0 ∙ list_all-set ys k x (both (holds_light y) _ h).1 l
+list_all-set (y ∷ ys) zero x h l = ap (λ b. b && list_all holds_light ys) l ∙ (and_parts _ _ h).1
+list_all-set (y ∷ ys) (suc k) x h l =
+    ap (λ b. b && list_all holds_light (set ys k x)) (and_parts (holds_light y) _ h).0 ∙ list_all-set ys k x (and_parts (holds_light y) _ h).1 l
 
 -- a lower cell is the lesser
 lesser-lower : (old : Option Cell) (cell : Cell) → is_lower old cell ≡ true → lesser old cell ≡ Some cell
@@ -46,19 +46,24 @@ places_apart n p q i j in_p in_i apart same =
     cc
 
 -- another slot that is written leaves this one
-other : (n : ℕ) (slots : List Slot) (i j : ℕ) (x : Slot) → in_room n i j ≡ true → (p q : ℕ) → ((p == i) && (q == j)) ≡ false → cell_at n (set slots (i * n + j) x) p q ≡ cell_at n slots p q
+other : (n : ℕ) (slots : List Slot) (i j : ℕ) (x : Slot) → in_room n i j ≡ true → (p q : ℕ) → ((p == i) && (q == j)) ≡ false
+    → cell_at n (set slots (i * n + j) x) p q ≡ cell_at n slots p q
 other n slots i j x room p q apart =
     elim (in_room n p q) as (λ b. in_room n p q ≡ b → cell_at n (set slots (i * n + j) x) p q ≡ cell_at n slots p q) [
-      | true ↦ λ h. cell_at-room n (set slots (i * n + j) x) p q h ∙ ap cell_in (get_or-set_other slots (i * n + j) (p * n + q) x no_slot (places_apart n p q i j (within-from_room n p q h) (within-from_room n i j room) apart)) ∙ sym (cell_at-room n slots p q h)
+      | true ↦ λ h. cell_at-room n (set slots (i * n + j) x) p q h
+          ∙ ap cell_in (get_or-set_other slots (i * n + j) (p * n + q) x no_slot
+          (places_apart n p q i j (within-from_room n p q h) (within-from_room n i j room) apart)) ∙ sym (cell_at-room n slots p q h)
       | false ↦ λ h. cell_at-none n (set slots (i * n + j) x) p q h ∙ sym (cell_at-none n slots p q h)
     ] refl
 
 -- the cells after a slot is written with a lower cell
-pub written : (n : ℕ) (slots : List Slot) (i j : ℕ) (cell : Cell) (x : Slot) → cell_in x ≡ Some cell → length slots ≡ n * n → in_room n i j ≡ true → is_lower (cell_at n slots i j) cell ≡ true
+pub written : (n : ℕ) (slots : List Slot) (i j : ℕ) (cell : Cell) (x : Slot) → cell_in x ≡ Some cell → length slots ≡ n * n → in_room n i j ≡ true
+    → is_lower (cell_at n slots i j) cell ≡ true
     → (p q : ℕ) → cell_at n (set slots (i * n + j) x) p q ≡ lowered i j cell (cell_at n slots) p q
 written n slots i j cell x is len room lower p q =
     let in_i = within-from_room n i j room in
-    elim ((p == i) && (q == j)) as (λ b. ((p == i) && (q == j)) ≡ b → cell_at n (set slots (i * n + j) x) p q ≡ (if b then lesser (cell_at n slots i j) cell else cell_at n slots p q)) [
+    elim ((p == i) && (q == j)) as
+    (λ b. ((p == i) && (q == j)) ≡ b → cell_at n (set slots (i * n + j) x) p q ≡ (if b then lesser (cell_at n slots i j) cell else cell_at n slots p q)) [
       | true ↦ λ h.
           let at_i : p ≡ i = grind (arith, nat_tests) in
           let at_j : q ≡ j = grind (arith, nat_tests) in

@@ -1,7 +1,9 @@
 -- A full matrix of slots as one list, row by row: which pairs have room, and the cell of a pair.
-use Rattle.std.specs.Prelude.{◌≡◌, ◌≢◌, ℕ, ◌+◌, ◌*◌, ◌<◌, List, [], ◌∷◌, Bool, true, false, ◌&&◌, not, ◌==◌, Option, Some, None, is_some, IfSome, nat_lt, slice_index_or, if◌then◌else◌, refl}
+use Rattle.std.specs.Prelude.{◌≡◌, ◌≢◌, ℕ, ◌+◌, ◌*◌, ◌<◌, List, [], ◌∷◌, Bool, true, false, ◌&&◌, not, ◌==◌, Option, Some, None, is_some, IfSome}
+use Rattle.std.specs.Prelude.{nat_lt, slice_index_or, if◌then◌else◌, refl}
 use Rattle.std.specs.List.{list_all}
 use Rattle.std.proofs.Common.{arith, zero, suc}
+use Rattle.std.proofs.lemmas.Bool.{and_parts}
 use Rattle.std.proofs.lemmas.Bool.Decides.{nat_tests}
 use Rattle.dist_rows.specs.declared.cell.Cell.{Cell}
 use Rattle.dist_rows.specs.declared.slot.Slot.{Slot}
@@ -28,14 +30,10 @@ light-one : (x : Option Cell) → is_light x ≡ true → IfSome x (λ c. IsLigh
 light-one None h = tt
 light-one (Some c) h = grind (arith, nat_tests)
 
-both : (a b : Bool) → (a && b) ≡ true → (a ≡ true) × (b ≡ true)
-both true b h = (refl, h)
-both false b h = absurd (cc)
-
 light-at : (slots : List Slot) → list_all holds_light slots ≡ true → (k : ℕ) → IfSome (cell_in (slice_index_or slots k no_slot)) (λ c. IsLight 100 c.weight)
 light-at [] h k = tt
-light-at (x ∷ xs) h zero = light-one (cell_in x) (both (holds_light x) (list_all holds_light xs) h).0
-light-at (x ∷ xs) h (suc k) = light-at xs (both (holds_light x) (list_all holds_light xs) h).1 k
+light-at (x ∷ xs) h zero = light-one (cell_in x) (and_parts (holds_light x) (list_all holds_light xs) h).0
+light-at (x ∷ xs) h (suc k) = light-at xs (and_parts (holds_light x) (list_all holds_light xs) h).1 k
 
 pub light-cell : (n : ℕ) (slots : List Slot) → list_all holds_light slots ≡ true → (p q : ℕ) → IfSome (cell_at n slots p q) (λ c. IsLight 100 c.weight)
 light-cell n slots h p q =

@@ -55,8 +55,7 @@ pub fn local_of(alloc: Global, net: &Network, agent: u32) -> Result<Local, Fail>
     if agent >= net.agents() {
         return Err(Fail::new("no such agent"));
     }
-    let local = Local::of(alloc, net, AgentId(agent))?;
-    Ok(local)
+    Ok(Local::of(alloc, net, AgentId(agent))?)
 }
 
 // The reduced local problem of an outcome without a conflict.

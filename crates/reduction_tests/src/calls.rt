@@ -56,8 +56,7 @@ pub fn in_order(alloc: Global, local: &Local, order: &[PointId]) -> Result<Priva
     if !are_private(local, order) || !are_different(order) || !are_whole(local, order) {
         return Err(Fail::new("no order"));
     }
-    let outcome = eliminate_listed(alloc, local, order)?;
-    Ok(outcome)
+    Ok(eliminate_listed(alloc, local, order)?)
 }
 
 /// The walk of a pair.
@@ -68,8 +67,7 @@ pub fn walk_of(alloc: Global, reduced: &Reduced, i: u32, j: u32) -> Result<Walk,
     if !either(entry.is_some(), forward.is_some()) {
         return Err(Fail::new("no walk"));
     }
-    let walk = reduced.walk(alloc, i, j)?;
-    Ok(walk)
+    Ok(reduced.walk(alloc, i, j)?)
 }
 
 /// A local problem narrowed to a window of one point.
@@ -91,6 +89,5 @@ pub fn narrowed(
         lo,
         hi,
     };
-    let narrow = local.narrowed(alloc, [window].as_slice())?;
-    Ok(narrow)
+    Ok(local.narrowed(alloc, [window].as_slice())?)
 }

@@ -61,8 +61,7 @@ fn ann_has_forward_weights(rt: HostRuntime) -> Result<(), Fail> {
 // Ann's bounds after the back sweep from the least bounds of the handover between the points that others see.
 fn anns_bounds(alloc: Global) -> Result<PrivateBounds, Fail> {
     let finals = summary_of(alloc, [entry(0, 2, 60), entry(2, 0, -30)].as_slice())?;
-    let bounds = back_sweep(alloc, &anns_part(alloc)?, &finals)?;
-    Ok(bounds)
+    Ok(back_sweep(alloc, &anns_part(alloc)?, &finals)?)
 }
 
 #[test]
