@@ -10,7 +10,7 @@ use Rattle.std.specs.List.{AllPairs}
 use Rattle.std.specs.Prelude.{IsTrue}
 use Rattle.stn_model.specs.Net.{arcs_of}
 use Rattle.stn_model.specs.Refusals.{is_name}
-use Rattle.stn_model.specs.Valid.{IsNetwork, IsArcWithin}
+use Rattle.stn_model.specs.Valid.{IsNetwork, IsArcWithin, IsActWithin}
 use Rattle.stn_model.specs.Walks.{IsNegativeCycle}
 use Rattle.handover_facts.specs.Handover.{handover, refused}
 
@@ -52,6 +52,7 @@ is_network = record {
   horizon_high = omega (arith, ints);
   few_agents = omega arith;
   few_points = omega arith;
+  few_acts = omega arith;
   few_arcs = omega arith;
   agent_forms = All-from_recursion (λ a. IsTrue (is_name a.name)) handover.agents (refl, (refl, tt));
   point_forms = All-from_recursion (λ p. IsTrue (is_name p.name)) handover.places (refl, (refl, (refl, (refl, tt))));
@@ -67,6 +68,8 @@ is_network = record {
   not_z = All-from_recursion (λ p. p.name ≢ 122 ∷ []) handover.places
       (differ a1 (122 ∷ []) refl, (differ a2 (122 ∷ []) refl, (differ b1 (122 ∷ []) refl, (differ b2 (122 ∷ []) refl, tt))));
   owners = All-from_recursion (λ p. p.owner < 2) handover.places (omega arith, (omega arith, (omega arith, (omega arith, tt))));
+  acts = All-from_recursion (IsActWithin handover.places) [] tt;
+  in_order = λ i j d lt within. absurd (omega arith);
   arcs = All-from_recursion (IsArcWithin 5) handover.given (
     record { starts = omega arith; ends = omega arith; different = omega arith; low = omega (arith, ints); high = omega (arith, ints) },
     (

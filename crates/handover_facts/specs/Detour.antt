@@ -17,6 +17,7 @@ detour = record {
   agents = record { name = 97 ∷ []; lean = Late } ∷ record { name = 98 ∷ []; lean = Late } ∷ [];
   places = record { name = 112 ∷ []; owner = 0 } ∷ record { name = 114 ∷ []; owner = 0 } ∷ record { name = 113 ∷ []; owner = 0 }
       ∷ record { name = 115 ∷ []; owner = 1 } ∷ [];
+  acts = [];
   given = arc 1 2 (pos 3) ∷ arc 2 3 (pos 4) ∷ arc 1 4 (pos 1) ∷ arc 3 4 (pos 1) ∷ [];
 }
 

@@ -23,6 +23,7 @@ handover = record {
   agents = record { name = 97 ∷ 110 ∷ 110 ∷ []; lean = Early } ∷ record { name = 98 ∷ 111 ∷ 98 ∷ []; lean = Early } ∷ [];
   places = record { name = 97 ∷ 49 ∷ []; owner = 0 } ∷ record { name = 97 ∷ 50 ∷ []; owner = 0 }
       ∷ record { name = 98 ∷ 49 ∷ []; owner = 1 } ∷ record { name = 98 ∷ 50 ∷ []; owner = 1 } ∷ [];
+  acts = [];
   given = arc 0 1 (pos 20) ∷ arc 1 2 (pos 40) ∷ arc 2 1 (neg_ℤ (pos 30)) ∷ arc 2 3 (pos 5) ∷ arc 3 2 (pos 0) ∷ arc 3 4 (pos 20)
       ∷ arc 4 3 (neg_ℤ (pos 10)) ∷ [];
 }
