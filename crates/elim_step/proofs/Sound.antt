@@ -5,6 +5,7 @@ use Rattle.std.specs.Prelude.{ℤ, ◌==◌, is_some, IfSome, nat_abs}
 use Rattle.std.proofs.Math.Bool.{or-true, or-false}
 use Rattle.std.proofs.lemmas.Bool.{cases_lt}
 use Rattle.std.proofs.lemmas.Bool.Decides.{nat_tests}
+use Rattle.stn_model.specs.Limits.{greatest_walk, most_points}
 use Rattle.stn_model.specs.declared.ids.Constraint.{Constraint}
 use Rattle.stn_model.specs.ArcWalks.{NoNegative, IsInnerLeast, IsInner}
 use Rattle.stn_walk.specs.Eliminations.{is_in, cell_of, before_both, IsNotBelow}
@@ -45,16 +46,16 @@ module _ (points : List ℕ) (arcs : List Constraint) (ground : IsGround points 
     go [] h = h
     go (a ∷ w) h = let l = ground.starts a h.0 in away l.0 l.1 (l.2 ∙ h.1)
 
-  below : IsBelow 4096 arcs
+  below : IsBelow most_points arcs
   unfolding IsBelow
   below = λ a here. let l = ground.starts a here in let low = ground.below l.0 l.1 in let e = l.2 in omega arith
 
-  bounds : HasBounds 9007199254740992 arcs
+  bounds : HasBounds greatest_walk arcs
   unfolding HasBounds
   bounds = λ a here. ground.light a here
 
   pub weights_light : (es : List ℕ) → NoNegative (is_in es) arcs → (i j : ℕ) → IfSome (cell_of arcs es i j) (λ w. nat_abs w ≤ 2 ^ 99)
-  weights_light = cells_light arcs 4096 9007199254740992 below bounds (omega arith)
+  weights_light = cells_light arcs most_points greatest_walk below bounds (omega arith)
 
   module _ (es : List ℕ) (at : ℕ → ℕ → Option Cell) (remain : List Bool) (h : IsEliminated points arcs es at remain) where
     -- the cell between two places that remain

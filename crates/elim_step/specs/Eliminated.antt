@@ -1,6 +1,7 @@
 -- What the cells between places come to once some points are eliminated, in the terms of walks: weight_at, point_at, IsGround,
 -- IsEliminated. The place k stands for the k-th of a list of points, and the eliminated points are listed with the last one first.
 use Rattle.std.specs.Prelude.{◌≡◌, ◌≢◌, ℕ, ℤ, ◌<◌, pos, neg_ℤ, ◌≤ℤ◌, List, Bool, not, Option, Some, None, length, slice_index_or, Contains}
+use Rattle.stn_model.specs.Limits.{greatest_walk, most_points}
 use Rattle.stn_model.specs.declared.ids.Constraint.{Constraint}
 use Rattle.stn_model.specs.ArcWalks.{NoNegative}
 use Rattle.stn_walk.specs.Eliminations.{is_in, cell_of, before_both}
@@ -25,8 +26,8 @@ pub record IsGround (points : List ℕ) (arcs : List Constraint) : Type 0 where
   pub apart : (i j : ℕ) → i < length points → j < length points → point_at points i ≡ point_at points j → i ≡ j
   pub starts : (a : Constraint) → Contains arcs a → IsListed points a.from.0
   pub ends : (a : Constraint) → Contains arcs a → IsListed points a.to.0
-  pub below : (k : ℕ) → k < length points → point_at points k < 4096
-  pub light : (a : Constraint) → Contains arcs a → (neg_ℤ (pos 9007199254740992) ≤ℤ a.bound) × (a.bound ≤ℤ pos 9007199254740992)
+  pub below : (k : ℕ) → k < length points → point_at points k < most_points
+  pub light : (a : Constraint) → Contains arcs a → (neg_ℤ (pos greatest_walk) ≤ℤ a.bound) × (a.bound ≤ℤ pos greatest_walk)
 
 -- the weight from one point to another through the eliminated points that come before both
 abbrev pub forward_of : List Constraint → List ℕ → ℕ → ℕ → Option ℤ

@@ -1,10 +1,11 @@
 -- Which lists of entries are summaries: pairs strictly rise by from and to, ends differ, weights have magnitude at most 2^53.
 use Rattle.std.specs.Prelude.{List, [], ◌∷◌, Bool, true, ◌&&◌, ◌||◌, not, nat_lt, ◌==◌, nat_le, nat_abs, Option, Some, None}
+use Rattle.stn_model.specs.Limits.{greatest_walk}
 use Rattle.elim_step.specs.declared.summary.SummaryEntry.{SummaryEntry}
 
 -- whether the ends differ and the weight is in range
 abbrev pub is_valid : SummaryEntry → Bool
-is_valid e = not (e.from.0 == e.to.0) && nat_le (nat_abs e.weight) 9007199254740992
+is_valid e = not (e.from.0 == e.to.0) && nat_le (nat_abs e.weight) greatest_walk
 
 -- whether the pair of one entry is less than that of another: by from, then by to
 abbrev pub is_less : SummaryEntry → SummaryEntry → Bool

@@ -4,7 +4,7 @@ ghost use Rattle.elim_step.specs.Summaries.{is_valid, is_less, may_follow, is_su
 
 use std::alloc::Global;
 use std::marker::Model;
-use stn_model::{OutOfMemory, PointId};
+use stn_model::{GREATEST_WALK, OutOfMemory, PointId};
 
 /// The least weight from one point to another, in the network's unit of time.
 #[derive(Clone, Copy, PartialEq, Eq, Debug)]
@@ -22,15 +22,13 @@ pub struct Window {
     pub hi: i128,
 }
 
-/// The greatest magnitude of an entry's weight: 2^53.
-const GREATEST: u128 = 9_007_199_254_740_992;
-
 impl SummaryEntry {
     // Whether the ends differ and the weight is in range.
     fn is_valid(&self) -> bool
         ensures { result ≡ is_valid self.now }
     {
-        self.from.0 != self.to.0 && self.weight.unsigned_abs() <= GREATEST
+        self.from.0 != self.to.0
+            && self.weight.unsigned_abs() <= GREATEST_WALK.unsigned_abs() as u128
     }
 
     // Whether the pair is less than that of another entry: by from, then by to.

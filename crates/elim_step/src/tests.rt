@@ -13,7 +13,7 @@ use std::marker::Brand;
 use std::process::Abort;
 use std::sync::ledger::{Blank, Ledger};
 use std::test::Fail;
-use stn_model::PointId;
+use stn_model::{GREATEST_WALK, PointId};
 
 // Lowers the cell of a pair to the bound of a given arc.
 #[tactic(auto, using(dist_rows::proofs::Lights::lowered_light))]
@@ -369,7 +369,7 @@ fn entry(from: u32, to: u32, weight: i128) -> SummaryEntry {
 
 #[test]
 fn summary_refuses_what_is_none(rt: HostRuntime) -> Result<(), Fail> {
-    let greatest = 9_007_199_254_740_992;
+    let greatest = i128::from(GREATEST_WALK);
     let alloc = rt.alloc();
     assert_eq!(rt; is_taken(&rt, alloc, &[])?, true, "the empty list");
     for (first, second, taken) in [
