@@ -5,6 +5,7 @@ use Rattle.std.specs.Prelude.{◌≡◌, ◌≢◌, ℕ, zero, suc, ◌+◌, ◌
 use Rattle.std.specs.Prelude.{◌==◌, Option, Some, None, is_some, slice_index_or, if◌then◌else◌, Contains}
 use Rattle.std.specs.List.{All, list_all}
 use Rattle.std.specs.Option.{option_map}
+use Rattle.stn_model.specs.Limits.{greatest_bound}
 use Rattle.stn_model.specs.declared.ids.Constraint.{Constraint}
 use Rattle.stn_model.specs.Arcs.{arc_at, bound_at, no_arc}
 use Rattle.stn_model.specs.Net.{Net, arcs_of, point_count}
@@ -61,8 +62,8 @@ pub record IsAdded (points : List ℕ) (a : LocalArc) : Type 0 where
   pub starts : Contains points a.arc.from.0
   pub ends : Contains points a.arc.to.0
   pub different : a.arc.from.0 ≢ a.arc.to.0
-  pub low : neg_ℤ (pos 1099511627776) ≤ℤ a.arc.bound
-  pub high : a.arc.bound ≤ℤ pos 1099511627776
+  pub low : neg_ℤ (pos greatest_bound) ≤ℤ a.arc.bound
+  pub high : a.arc.bound ≤ℤ pos greatest_bound
 
 -- what is true of every local problem: it is that of an agent of some network, with some arcs added
 pub record IsLocal (v : LocalView) : Type 0 where
@@ -124,9 +125,9 @@ local_arc_at arcs k = slice_index_or arcs k no_local_arc
 -- the ends of the window lie between 0 and 2^40
 pub record IsWindow (w : Window) : Type 0 where
   pub lo_low : pos 0 ≤ℤ w.lo
-  pub lo_high : w.lo ≤ℤ pos 1099511627776
+  pub lo_high : w.lo ≤ℤ pos greatest_bound
   pub hi_low : pos 0 ≤ℤ w.hi
-  pub hi_high : w.hi ≤ℤ pos 1099511627776
+  pub hi_high : w.hi ≤ℤ pos greatest_bound
 
 -- a window of one of the points other than z
 pub record IsWindowOf (points : List ℕ) (w : Window) : Type 0 where

@@ -1,5 +1,6 @@
 -- The back sweep underway: IsSeenPlaces, HasGiven, IsSwept.
 use Rattle.std.specs.Prelude.{◌≡◌, ◌≢◌, ℕ, ◌+◌, ◌-◌, ◌*◌, ◌<◌, ◌≤◌, nat_abs, List, Bool, true, false, ◌||◌, not, Option, is_some, IfSome, length, take}
+use Rattle.stn_model.specs.Limits.{greatest_walk}
 use Rattle.stn_model.specs.Net.{arcs_of}
 use Rattle.stn_model.specs.ArcWalks.{IsInnerLeast}
 use Rattle.stn_model.specs.Joined.{IsJoined}
@@ -35,7 +36,7 @@ pub record IsSwept (v : LocalView) (order : List ℕ) (entries : List SummaryEnt
   pub ends : (p q : ℕ) → is_some (at p q) ≡ true → (remains done p ≡ true) × (remains done q ≡ true)
   pub pairs : (p q : ℕ) → is_some (at p q) ≡ true → (private_at v p || private_at v q) ≡ true
       → IsJoined (arcs_in v) order (point_at v.points p) (point_at v.points q)
-  pub light : (p q : ℕ) → IfSome (at p q) (λ c. nat_abs c.weight ≤ 9007199254740992 + (length order - n) * 4503599627370496)
+  pub light : (p q : ℕ) → IfSome (at p q) (λ c. nat_abs c.weight ≤ greatest_walk + (length order - n) * greatest_walk)
   pub least : OfPart v (λ net. HoldsFinals net v.agent entries
       → (p q : ℕ) → p < length v.points → q < length v.points → remains done p ≡ true → remains done q ≡ true
       → IsJoined (arcs_in v) order (point_at v.points p) (point_at v.points q)

@@ -26,7 +26,7 @@ pub fn own_conflict(
     ensures cycle { IfOk result (λ w. OfNetwork elimination.now.local (λ net. IsOwnConflict net elimination.now.local.agent w)) }
     ensures normal { IfOk result IsNormal }
 {
-    // What the size tells of the elimination: the taken points are private, and no closed walk through them is negative.
+    // With the size comes that the taken points are private, and that no closed walk through them is negative.
     let _facts = elimination.size();
     let mut closed = elimination.unfold(alloc, place, other)?;
     let back = elimination.unfold(alloc, other, place)?;

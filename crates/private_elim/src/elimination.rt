@@ -1,6 +1,7 @@
 //! A local problem of which some private points are taken: the weights between its points through those.
 ghost use Rattle.std.specs.Prelude.{◌≡◌, ◌≢◌, ℕ, ◌<◌, ◌+ℤ◌, ◌<ℤ◌, ◌++◌, ◌∷◌, [], ◌⊎◌, true, false, pos, neg_ℤ, ◌≤ℤ◌, map, Option, Some, None, is_some, IfOk, IfSome, OnErr, MatchOption, length, reverse, slice_index_or, if◌then◌else◌};
 ghost use Rattle.std.specs.List.{AllByRecursion};
+ghost use Rattle.stn_model.specs.Limits.{greatest_walk};
 ghost use Rattle.stn_model.specs.Walks as walks;
 ghost use Rattle.stn_walk.specs.Eliminations.{is_in, before_both};
 ghost use Rattle.stn_walk.specs.Joins.{joined_of};
@@ -106,7 +107,7 @@ impl Elimination {
         requires within { (from < length self.now.local.points) × (to < length self.now.local.points) }
         ensures same { from ≡ to → result ≡ None }
         ensures value { from ≢ to → result ≡ forward_of (arcs_in self.now.local) (reverse self.now.order) (point_at self.now.local.points from) (point_at self.now.local.points to) }
-        ensures light { IfSome result (λ w. (neg_ℤ (pos 4503599627370496) ≤ℤ w) × (w ≤ℤ pos 4503599627370496)) }
+        ensures light { IfSome result (λ w. (neg_ℤ (pos greatest_walk) ≤ℤ w) × (w ≤ℤ pos greatest_walk)) }
     {
         weight_of(self.rows.get(from, to))
     }

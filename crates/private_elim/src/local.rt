@@ -110,7 +110,7 @@ impl Local {
         self.agent
     }
 
-    /// How many points there are, with the reference point: at least 1 and at most 4096.
+    /// How many points there are, with the reference point: at least 1 and at most 8192.
     pub fn size(&self) -> u32
         ensures count { result ≡ length self.now.points }
         ensures valid { IsLocal self.now }

@@ -1,5 +1,6 @@
 //! A local problem whose private points are all taken: its summary, the weights between its points, and their walks.
 ghost use Rattle.std.specs.Prelude.{◌≡◌, ◌≢◌, ℤ, ◌<◌, ◌*◌, ◌-◌, [], ◌∷◌, true, false, ◌&&◌, Some, None, IfOk, is_some, length, reverse, map};
+ghost use Rattle.stn_model.specs.Limits.{most_points};
 ghost use Rattle.stn_model.specs.Net.{arcs_of};
 ghost use Rattle.stn_model.specs.Walks as walks;
 ghost use Rattle.stn_model.specs.Inner.{IsInnerWeight};
@@ -149,8 +150,8 @@ fn is_over(horizon: i64, weight: Option<i128>) -> bool
 // The numbers of the arc from a point to the reference point, and of the arc from there to another point: their bounds are 0 and the
 // horizon.
 fn detour(alloc: Global, i: PointId, j: PointId) -> Result<Vec<u32>, OutOfMemory>
-    requires from { (0 < i.0) × (i.0 < 4096) }
-    requires to { (0 < j.0) × (j.0 < 4096) }
+    requires from { (0 < i.0) × (i.0 < most_points) }
+    requires to { (0 < j.0) × (j.0 < most_points) }
     ensures { IfOk result (λ numbers. numbers.items ≡ (2 * i.0 - 1) ∷ (2 * j.0 - 2) ∷ []) }
 {
     let mut numbers = Vec::with_capacity(alloc, 2)?;

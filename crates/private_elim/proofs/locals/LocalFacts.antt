@@ -6,6 +6,7 @@ use Rattle.std.proofs.lemmas.List.Elements.{All-nil, All-map, All-head, All-cont
 use Rattle.std.proofs.lemmas.List.Sums.{list_all-from_AllPass}
 use Rattle.std.proofs.lemmas.List.Folds.{list_all-append}
 use Rattle.std.proofs.lemmas.Bool.{false≢true, and_parts}
+use Rattle.stn_model.specs.Limits.{most_points}
 use Rattle.stn_model.specs.declared.ids.Constraint.{Constraint}
 use Rattle.stn_model.specs.Arcs.{arc_at, no_arc}
 use Rattle.stn_model.specs.Net.{Net, arcs_of}
@@ -59,13 +60,13 @@ module _ (v : LocalView) (h : IsLocal v) where
   pub z_contained : Contains v.points 0
   z_contained = (0, some_point, ap (λ ps. get_or ps 0 0) h.points)
 
-  -- there are at most 4096
-  pub few_points : length v.points ≤ 4096
+  -- there are no more than a network may have
+  pub few_points : length v.points ≤ most_points
   few_points = omega (arith, ap length h.points, points_few h.net v.agent, h.valid.few_points)
 
-  -- and each is below 4096
-  pub points_small : All (λ p. p < 4096) v.points
-  points_small = subst (All (λ p. p < 4096)) (sym h.points) (λ k d lt. let below = points_below h.net v.agent k d lt in omega (arith, h.valid.few_points))
+  -- and each is below that
+  pub points_small : All (λ p. p < most_points) v.points
+  points_small = subst (All (λ p. p < most_points)) (sym h.points) (λ k d lt. let below = points_below h.net v.agent k d lt in omega (arith, h.valid.few_points))
 
   -- each point is shared or not
   pub one_each : length v.shared ≡ length v.points

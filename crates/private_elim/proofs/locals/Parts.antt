@@ -7,6 +7,7 @@ use Rattle.std.proofs.lemmas.List.{append-nil, length-map, get_or-map, get_or_ap
 use Rattle.std.proofs.lemmas.List.Elements.{All-append, All-weaker, Contains-append_left}
 use Rattle.std.proofs.lemmas.Bool.{cases_eq, false_from_ne_true, ne_eqb, and_parts}
 use Rattle.std.proofs.lemmas.Bool.Decides.{nat_tests}
+use Rattle.stn_model.specs.Limits.{greatest_bound}
 use Rattle.stn_model.specs.declared.ids.Constraint.{Constraint}
 use Rattle.stn_model.specs.Arcs.{arc_at, bound_at, no_arc}
 use Rattle.stn_model.specs.Net.{Net, arcs_of, point_count}
@@ -35,8 +36,8 @@ pub record IsJoin (points : List ℕ) (a : Constraint) : Type 0 where
   pub starts : Contains points a.from.0
   pub ends : Contains points a.to.0
   pub different : a.from.0 ≢ a.to.0
-  pub low : neg_ℤ (pos 1099511627776) ≤ℤ a.bound
-  pub high : a.bound ≤ℤ pos 1099511627776
+  pub low : neg_ℤ (pos greatest_bound) ≤ℤ a.bound
+  pub high : a.bound ≤ℤ pos greatest_bound
 
 -- each local problem is, of the network that it has
 abbrev pub part_of_local : (v : LocalView) (h : IsLocal v) → IsPart v h.net

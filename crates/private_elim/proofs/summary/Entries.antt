@@ -9,6 +9,7 @@ use Rattle.std.specs.Prelude.{ℤ, ◌==◌, nat_lt, nat_le, nat_abs, is_some, I
 use Rattle.std.proofs.lemmas.Bool.{false≢true, eqb-true, eq-eqb, and_parts}
 use Rattle.std.proofs.lemmas.Bool.Decides.{nat_tests}
 use Rattle.std.proofs.lemmas.List.{take_more}
+use Rattle.stn_model.specs.Limits.{greatest_walk}
 use Rattle.dist_rows.specs.declared.cell.Cell.{Cell}
 use Rattle.dist_rows.specs.Cells.{lesser, lowered}
 use Rattle.elim_step.specs.declared.summary.SummaryEntry.{SummaryEntry}
@@ -38,26 +39,26 @@ valid_next None e h = h
 valid_next (Some last) e h = (and_parts (is_less last e) (is_valid e) h).1
 
 -- the weight of a valid entry has magnitude at most 2^53, and its ends differ
-pub valid_light : (e : SummaryEntry) → is_valid e ≡ true → nat_abs e.weight ≤ 9007199254740992
-valid_light e h = (let light = (and_parts (not (e.from.0 == e.to.0)) (nat_le (nat_abs e.weight) 9007199254740992) h).1 in grind (arith, nat_tests))
+pub valid_light : (e : SummaryEntry) → is_valid e ≡ true → nat_abs e.weight ≤ greatest_walk
+valid_light e h = (let light = (and_parts (not (e.from.0 == e.to.0)) (nat_le (nat_abs e.weight) greatest_walk) h).1 in grind (arith, nat_tests))
 
 pub valid_differ : (e : SummaryEntry) → is_valid e ≡ true → e.from.0 ≢ e.to.0
 valid_differ e h same =
-    let off : not (e.from.0 == e.to.0) ≡ true = (and_parts (not (e.from.0 == e.to.0)) (nat_le (nat_abs e.weight) 9007199254740992) h).0 in
+    let off : not (e.from.0 == e.to.0) ≡ true = (and_parts (not (e.from.0 == e.to.0)) (nat_le (nat_abs e.weight) greatest_walk) h).0 in
     false≢true (ap not (sym (eq-eqb e.from.0 e.to.0 same)) ∙ off)
 
 -- so the weight of a pair has
 light_after : (last : Option SummaryEntry) (es : List SummaryEntry) → may_all_follow last es ≡ true → (i j : ℕ)
-    → IfSome (entry_in es i j) (λ w. nat_abs w ≤ 9007199254740992)
+    → IfSome (entry_in es i j) (λ w. nat_abs w ≤ greatest_walk)
 light_after last [] h i j = tt
 light_after last (e ∷ es) h i j =
     let both = and_parts (may_follow last e) (may_all_follow (Some e) es) h in
-    elim ((e.from.0 == i) && (e.to.0 == j)) as (λ b. IfSome (if b then Some e.weight else entry_in es i j) (λ w. nat_abs w ≤ 9007199254740992)) [
+    elim ((e.from.0 == i) && (e.to.0 == j)) as (λ b. IfSome (if b then Some e.weight else entry_in es i j) (λ w. nat_abs w ≤ greatest_walk)) [
       | true ↦ valid_light e (valid_next last e both.0)
       | false ↦ light_after (Some e) es both.1 i j
     ]
 
-pub entry_light : (es : List SummaryEntry) → is_summary es ≡ true → (i j : ℕ) → IfSome (entry_in es i j) (λ w. nat_abs w ≤ 9007199254740992)
+pub entry_light : (es : List SummaryEntry) → is_summary es ≡ true → (i j : ℕ) → IfSome (entry_in es i j) (λ w. nat_abs w ≤ greatest_walk)
 entry_light es h = light_after None es h
 
 -- one pair is less than a second, and the second less than a third

@@ -8,6 +8,7 @@ use Rattle.std.proofs.lemmas.Bool.Decides.{nat_tests}
 use Rattle.std.proofs.lemmas.Int.{ints}
 use Rattle.std.proofs.lemmas.List.{get_or-map, length-map}
 use Rattle.std.proofs.lemmas.List.Elements.{All-map, All-weaker, recursion_from_All}
+use Rattle.stn_model.specs.Limits.{greatest_bound, greatest_walk}
 use Rattle.stn_model.specs.ArcWalks.{NoNegative, IsInnerLeast}
 use Rattle.stn_model.specs.Inner.{IsInnerWeight}
 use Rattle.stn_model.specs.Joined.{IsPath}
@@ -49,16 +50,16 @@ pair_parts false false true d h = absurd (false≢true h)
 pair_parts false false false d h = (refl, refl, refl, h)
 
 -- an entry's weight is light
-light_entry : (h : ℤ) (o : Option ℤ) → pos 0 ≤ℤ h → h ≤ℤ pos 1099511627776 → IfSome o (λ w. nat_abs w ≤ 4503599627370496)
-    → nat_abs (entry_weight h o) ≤ 9007199254740992
+light_entry : (h : ℤ) (o : Option ℤ) → pos 0 ≤ℤ h → h ≤ℤ pos greatest_bound → IfSome o (λ w. nat_abs w ≤ greatest_walk)
+    → nat_abs (entry_weight h o) ≤ greatest_walk
 light_entry h None low high light = omega (arith, ints)
 light_entry h (Some w) low high light =
-    elim (int_lt h w) as (λ b. int_lt h w ≡ b → nat_abs (entry_weight h (Some w)) ≤ 9007199254740992) [
+    elim (int_lt h w) as (λ b. int_lt h w ≡ b → nat_abs (entry_weight h (Some w)) ≤ greatest_walk) [
       | true ↦ λ t. rw t (omega (arith, ints))
       | false ↦ λ t. rw t (omega (arith, ints))
     ] refl
 
-valid_at : (p q n : ℕ) → p ≢ q → n ≤ 9007199254740992 → (not (p == q) && nat_le n 9007199254740992) ≡ true
+valid_at : (p q n : ℕ) → p ≢ q → n ≤ greatest_walk → (not (p == q) && nat_le n greatest_walk) ≡ true
 valid_at p q n apart low = grind (arith, nat_tests)
 
 -- a list with two places has more than one
@@ -141,7 +142,7 @@ module _ (t : TakenView) (h : HasTaken t) where
       let some : 1 < length t.local.points = at_least_two g.start g.end (length t.local.points) g.start_in g.end_in p.apart in
       let horizon = horizon_is t.local h.known some in
       let low : pos 0 ≤ℤ horizon_in t.local = subst (λ z. pos 0 ≤ℤ z) (sym horizon) h.known.valid.horizon_low in
-      let high : horizon_in t.local ≤ℤ pos 1099511627776 = subst (λ z. z ≤ℤ pos 1099511627776) (sym horizon) h.known.valid.horizon_high in
+      let high : horizon_in t.local ≤ℤ pos greatest_bound = subst (λ z. z ≤ℤ pos greatest_bound) (sym horizon) h.known.valid.horizon_high in
       let light =
       light_entry (horizon_in t.local) (forward_at t g.start g.end) low high
       (forward_light t h (point_at t.local.points g.start) (point_at t.local.points g.end)) in

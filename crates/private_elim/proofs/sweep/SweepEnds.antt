@@ -8,6 +8,7 @@ use Rattle.std.specs.Prelude.{ℤ, is_some, IfSome, nat_abs, slice_index_or, if�
 use Rattle.std.specs.List.{AllByRecursion, Contains}
 use Rattle.std.proofs.lemmas.Bool.{false≢true, not-true, false_from_ne_true}
 use Rattle.std.proofs.lemmas.List.{take_all}
+use Rattle.stn_model.specs.Limits.{greatest_walk}
 use Rattle.stn_model.specs.Net.{Net, arcs_of, point_count}
 use Rattle.stn_model.specs.Valid.{IsNetwork}
 use Rattle.stn_model.specs.ArcWalks.{IsInnerLeast}
@@ -75,8 +76,8 @@ module _ (v : LocalView) (order : List ℕ) (f : ℕ → ℕ → Option Cell) (j
     module _ (valid : is_summary entries ≡ true) (at : ℕ → ℕ → Option Cell) (given : HasGiven v entries at) (done : List Bool)
         (len : length done ≡ length v.points)
         (seen : (p : ℕ) → p < length v.points → remains done p ≡ not (private_at v p)) where
-      given_light : (x : Option Cell) (y : Option ℤ) (b : ℕ) → weight_at x ≡ y → IfSome y (λ w. nat_abs w ≤ 9007199254740992)
-          → IfSome x (λ c. nat_abs c.weight ≤ 9007199254740992 + b)
+      given_light : (x : Option Cell) (y : Option ℤ) (b : ℕ) → weight_at x ≡ y → IfSome y (λ w. nat_abs w ≤ greatest_walk)
+          → IfSome x (λ c. nat_abs c.weight ≤ greatest_walk + b)
       given_light None y b e light = tt
       given_light (Some c) None b e light = absurd (cc)
       given_light (Some c) (Some w) b e light = let same : c.weight ≡ w = cc in rw same (omega arith)
@@ -85,14 +86,14 @@ module _ (v : LocalView) (order : List ℕ) (f : ℕ → ℕ → Option Cell) (j
       nothing_light None b e = tt
       nothing_light (Some c) b e = absurd (cc)
 
-      light_first : (p q : ℕ) → IfSome (at p q) (λ c. nat_abs c.weight ≤ 9007199254740992 + (length order - length order) * 4503599627370496)
+      light_first : (p q : ℕ) → IfSome (at p q) (λ c. nat_abs c.weight ≤ greatest_walk + (length order - length order) * greatest_walk)
       light_first p q =
           elim (is_some (at p q)) as (λ b. is_some (at p q) ≡ b
-          → IfSome (at p q) (λ c. nat_abs c.weight ≤ 9007199254740992 + (length order - length order) * 4503599627370496)) [
+          → IfSome (at p q) (λ c. nat_abs c.weight ≤ greatest_walk + (length order - length order) * greatest_walk)) [
             | true ↦ λ some. given_light (at p q) (entry_in entries (point_at v.points p) (point_at v.points q))
-                ((length order - length order) * 4503599627370496)
+                ((length order - length order) * greatest_walk)
                 (given.weights p q (given.only p q some)) (entry_light entries valid (point_at v.points p) (point_at v.points q))
-            | false ↦ λ none. nothing_light (at p q) (9007199254740992 + (length order - length order) * 4503599627370496) none
+            | false ↦ λ none. nothing_light (at p q) (greatest_walk + (length order - length order) * greatest_walk) none
           ] refl
 
       -- places that are done are not private

@@ -1,13 +1,14 @@
 -- What cells and joined places come to at a private point of the order, when the points before it are the ones left: facts for its revisit.
 --   reverse-cut                 an order turned round, cut at one of its points
 --   joined_in_order, order_joins   joined places are joined in the order
---   rows_light                  weights of the rows have magnitude at most 2^52
+--   rows_light                  weights of the rows have magnitude at most 2^53
 --   cell_out, cell_back, join_out, cells_apart   cells and joins with the point
 use Rattle.std.proofs.Common.{◌≡◌, ◌≢◌, ℕ, ◌+◌, ◌<◌, ◌≤◌, List, [], ◌∷◌, ◌++◌, Bool, true, false, ◌||◌, Option, Some, None, length, take, drop}
 use Rattle.std.proofs.Common.{reverse, refl, sym, ap, subst, ◌∙◌}
 use Rattle.std.specs.Prelude.{ℤ, ◌==◌, is_some, IfSome, nat_abs}
 use Rattle.std.proofs.lemmas.Bool.{false≢true}
 use Rattle.std.proofs.lemmas.List.{take_more, take-append-drop, reverse-append}
+use Rattle.stn_model.specs.Limits.{greatest_walk}
 use Rattle.stn_model.specs.declared.ids.Constraint.{Constraint}
 use Rattle.stn_model.specs.ArcWalks.{NoNegative, IsInnerLeast}
 use Rattle.stn_model.specs.Joined.{IsJoined}
@@ -80,21 +81,21 @@ module _ (v : LocalView) (order : List ℕ) (f : ℕ → ℕ → Option Cell) (j
   pub none_among : (es : List ℕ) → ((p : ℕ) → is_in es p ≡ true → is_in (reverse order) p ≡ true) → NoNegative (is_in es) (arcs_in v)
   none_among es up p w h = t.cells.none_below p w (inner_in (is_in es) (is_in (reverse order)) (arcs_in v) p p w up h)
 
-  light_of : (x : Option Cell) (y : Option ℤ) → weight_at x ≡ y → IfSome y (λ w. nat_abs w ≤ 4503599627370496)
-      → IfSome x (λ c. nat_abs c.weight ≤ 4503599627370496)
+  light_of : (x : Option Cell) (y : Option ℤ) → weight_at x ≡ y → IfSome y (λ w. nat_abs w ≤ greatest_walk)
+      → IfSome x (λ c. nat_abs c.weight ≤ greatest_walk)
   light_of None y e g = tt
   light_of (Some c) None e g = absurd (cc)
   light_of (Some c) (Some w) e g = let same : c.weight ≡ w = cc in rw same g
 
-  none_light : (x : Option Cell) → is_some x ≡ false → IfSome x (λ c. nat_abs c.weight ≤ 4503599627370496)
+  none_light : (x : Option Cell) → is_some x ≡ false → IfSome x (λ c. nat_abs c.weight ≤ greatest_walk)
   none_light None g = tt
   none_light (Some c) g = absurd (cc)
 
-  -- the weights of the rows have magnitude at most 2^52
+  -- the weights of the rows have magnitude at most 2^53
   pub rows_light : ((p q : ℕ) → is_some (f p q) ≡ true → (p < length v.points) × (q < length v.points) × (p ≢ q))
-      → (p q : ℕ) → IfSome (f p q) (λ c. nat_abs c.weight ≤ 4503599627370496)
+      → (p q : ℕ) → IfSome (f p q) (λ c. nat_abs c.weight ≤ greatest_walk)
   rows_light room p q =
-      elim (is_some (f p q)) as (λ b. is_some (f p q) ≡ b → IfSome (f p q) (λ c. nat_abs c.weight ≤ 4503599627370496)) [
+      elim (is_some (f p q)) as (λ b. is_some (f p q) ≡ b → IfSome (f p q) (λ c. nat_abs c.weight ≤ greatest_walk)) [
         | true ↦ λ there.
             let r = room p q there in
             let x = point_at v.points p in

@@ -3,6 +3,7 @@ use Rattle.std.proofs.Common.{◌≡◌, ◌≢◌, ℕ, ◌+◌, ◌<◌, ◌�
 use Rattle.std.proofs.Common.{subst, ◌∙◌, arith}
 use Rattle.std.specs.Prelude.{IfSome, nat_abs, slice_index_or}
 use Rattle.std.specs.List.{AllPairs}
+use Rattle.stn_model.specs.Limits.{greatest_walk}
 use Rattle.stn_walk.specs.Eliminations.{is_in}
 use Rattle.dist_rows.specs.declared.cell.Cell.{Cell}
 use Rattle.dist_rows.specs.Cells.{IsLight, AllLight}
@@ -101,7 +102,7 @@ module _ (e : Inside) (n k : ℕ) (entries : List SummaryEntry) (size : ℕ) (at
       no_cells e.local (order_of e) (rows_of e)
       (is_joined e.joins) e.remain.items t.underway.taken n k t.number t.place t.is entries at done t.swept later t.each within
 
-  rows_small : (p q : ℕ) → IfSome (rows_of e p q) (λ c. nat_abs c.weight ≤ 4503599627370496)
+  rows_small : (p q : ℕ) → IfSome (rows_of e p q) (λ c. nat_abs c.weight ≤ greatest_walk)
   rows_small =
       rows_light e.local (order_of e) (rows_of e) (is_joined e.joins) e.remain.items t.underway.taken (λ p q some.
       let room = within-from_room e.rows.size p q (room-from_cell e.rows.size e.rows.slots.items p q some) in
@@ -109,7 +110,7 @@ module _ (e : Inside) (n k : ℕ) (entries : List SummaryEntry) (size : ℕ) (at
 
   pub asks_forward : AllLight 99 (rows_of e)
   asks_forward p q = far (rows_of e p q) (rows_small p q) where
-    far : (o : Option Cell) → IfSome o (λ c. nat_abs c.weight ≤ 4503599627370496) → IfSome o (λ c. IsLight 99 c.weight)
+    far : (o : Option Cell) → IfSome o (λ c. nat_abs c.weight ≤ greatest_walk) → IfSome o (λ c. IsLight 99 c.weight)
     far None h = tt
     far (Some c) h = omega arith
 

@@ -8,6 +8,7 @@ use Rattle.std.proofs.Common.{take, drop, set, reverse, refl, sym, ap, subst, �
 use Rattle.std.specs.Prelude.{pos, ◌==◌, is_some, IfSome, nat_abs, if◌then◌else◌}
 use Rattle.std.proofs.lemmas.Bool.{false≢true, eqb-true, eqb-false, eq-eqb, and_parts, and_from, or_right, not-true, false_from_ne_true}
 use Rattle.std.proofs.lemmas.Int.{ints}
+use Rattle.stn_model.specs.Limits.{greatest_walk, most_points}
 use Rattle.stn_model.specs.Net.{Net, arcs_of, point_count}
 use Rattle.stn_model.specs.Valid.{IsNetwork}
 use Rattle.stn_model.specs.ArcWalks.{IsInnerLeast}
@@ -195,7 +196,7 @@ module _ (v : LocalView) (order : List ℕ) (f : ℕ → ℕ → Option Cell) (j
       let few = few_taken (record { local = v; order = order }) (facts v order f joined remain t) in
       far (at p q) (s.light p q) few
     where
-      far : (o : Option Cell) → IfSome o (λ c. nat_abs c.weight ≤ 9007199254740992 + (length order - (n + 1)) * 4503599627370496) → length order ≤ 4096
+      far : (o : Option Cell) → IfSome o (λ c. nat_abs c.weight ≤ greatest_walk + (length order - (n + 1)) * greatest_walk) → length order ≤ most_points
           → IfSome o (λ c. IsLight 99 c.weight)
       far None h few = tt
       far (Some c) h few = omega arith
@@ -251,7 +252,7 @@ module _ (v : LocalView) (order : List ℕ) (f : ℕ → ℕ → Option Cell) (j
 
   -- the revisit
   module _ (after : ℕ → ℕ → Option Cell) (r : Revisits f k later at after)
-      (rows_light : (p q : ℕ) → IfSome (f p q) (λ c. nat_abs c.weight ≤ 4503599627370496)) where
+      (rows_light : (p q : ℕ) → IfSome (f p q) (λ c. nat_abs c.weight ≤ greatest_walk)) where
     k_within : k < length done
     k_within = omega (arith, lk, s.len)
 
@@ -296,17 +297,17 @@ module _ (v : LocalView) (order : List ℕ) (f : ℕ → ℕ → Option Cell) (j
         (joined_turned v order f joined remain t p k (within p h) lk (later_other p h) ∙ (later_done p h).1))
         (λ p q no_out no_back some private. s.pairs p q (ap is_some (sym (r.others p q no_out no_back)) ∙ some) private)
 
-    light_more : (p q : ℕ) → IfSome (after p q) (λ c. nat_abs c.weight ≤ 9007199254740992 + (length order - n) * 4503599627370496)
+    light_more : (p q : ℕ) → IfSome (after p q) (λ c. nat_abs c.weight ≤ greatest_walk + (length order - n) * greatest_walk)
     light_more =
-        let bound : ℕ = 9007199254740992 + (length order - (n + 1)) * 4503599627370496 in
-        let more : ℕ = 9007199254740992 + (length order - n) * 4503599627370496 in
+        let bound : ℕ = greatest_walk + (length order - (n + 1)) * greatest_walk in
+        let more : ℕ = greatest_walk + (length order - n) * greatest_walk in
         by_pair k later (λ p q. IfSome (after p q) (λ c. nat_abs c.weight ≤ more))
-        (λ q h. weaker (4503599627370496 + bound) more (after k q) (omega arith)
-        (least_light (4503599627370496 + bound) (out_sum f at k q) later (after k q)
-        (λ m. sum_light m 4503599627370496 bound (f k m) (reach_of at m q) (rows_light k m) (reach_light at bound m q (s.light m q))) (r.out q h)))
-        (λ p h. weaker (bound + 4503599627370496) more (after p k) (omega arith)
-        (least_light (bound + 4503599627370496) (in_sum f at k p) later (after p k)
-        (λ m. sum_light m bound 4503599627370496 (reach_of at p m) (f m k) (reach_light at bound p m (s.light p m)) (rows_light m k)) (r.back p h)))
+        (λ q h. weaker (greatest_walk + bound) more (after k q) (omega arith)
+        (least_light (greatest_walk + bound) (out_sum f at k q) later (after k q)
+        (λ m. sum_light m greatest_walk bound (f k m) (reach_of at m q) (rows_light k m) (reach_light at bound m q (s.light m q))) (r.out q h)))
+        (λ p h. weaker (bound + greatest_walk) more (after p k) (omega arith)
+        (least_light (bound + greatest_walk) (in_sum f at k p) later (after p k)
+        (λ m. sum_light m bound greatest_walk (reach_of at p m) (f m k) (reach_light at bound p m (s.light p m)) (rows_light m k)) (r.back p h)))
         (λ p q no_out no_back. subst (λ o. IfSome o (λ c. nat_abs c.weight ≤ more)) (sym (r.others p q no_out no_back))
         (weaker bound more (at p q) (omega arith) (s.light p q)))
 

@@ -6,6 +6,7 @@ use Rattle.std.specs.Prelude.{◌==◌, if◌then◌else◌, filter, reverse, sl
 use Rattle.std.specs.List.{AllByRecursion}
 use Rattle.std.proofs.lemmas.Bool.Decides.{nat_tests}
 use Rattle.std.proofs.lemmas.List.{length-map, get_or-map, get_or-take, length-take-le, length-reverse}
+use Rattle.stn_model.specs.Limits.{most_points}
 use Rattle.stn_model.specs.declared.ids.PointId.{PointId}
 use Rattle.stn_model.specs.Walks.{AllDifferent}
 use Rattle.stn_walk.specs.Eliminations.{is_in}
@@ -31,7 +32,7 @@ private_placed v p h = by (place_in v.points p) refl where
   by None e = absurd (let f : is_private_in v p ≡ false = ap (passes_at (private_at v)) e in cc)
   by (Some k) e = (k, e)
 
-private_below : (v : LocalView) → IsLocal v → (p : ℕ) → is_private_in v p ≡ true → p < 4096
+private_below : (v : LocalView) → IsLocal v → (p : ℕ) → is_private_in v p ≡ true → p < most_points
 private_below v h p private =
     let k = private_placed v p private in
     let found = place_found v.points p k.0 k.1 in
@@ -39,10 +40,10 @@ private_below v h p private =
     let is = found.1 in
     omega arith
 
--- at most 4096 points are taken
-pub few_taken : (t : TakenView) → HasTaken t → length t.order ≤ 4096
-few_taken t h = few_different 4096 t.order h.once (all t.order h.private) where
-  all : (xs : List ℕ) → AllByRecursion (λ p. is_private_in t.local p ≡ true) xs → AllByRecursion (λ p. p < 4096) xs
+-- at most as many points are taken as a network may have
+pub few_taken : (t : TakenView) → HasTaken t → length t.order ≤ most_points
+few_taken t h = few_different most_points t.order h.once (all t.order h.private) where
+  all : (xs : List ℕ) → AllByRecursion (λ p. is_private_in t.local p ≡ true) xs → AllByRecursion (λ p. p < most_points) xs
   all [] a = tt
   all (x ∷ xs) a = (private_below t.local h.known x a.0, all xs a.1)
 

@@ -6,6 +6,7 @@ use Rattle.std.specs.Prelude.{ℤ, pos, neg_ℤ, ◌≤ℤ◌, ◌<ℤ◌, ◌==
 use Rattle.std.proofs.lemmas.Bool.Decides.{nat_tests}
 use Rattle.std.proofs.lemmas.Int.{ints}
 use Rattle.std.proofs.lemmas.List.{take_more, take_all, length-map, get_or-map, length-replicate}
+use Rattle.stn_model.specs.Limits.{greatest_bound}
 use Rattle.stn_model.specs.declared.ids.Constraint.{Constraint}
 use Rattle.stn_model.specs.Arcs.{arc_at, no_arc}
 use Rattle.stn_model.specs.ArcWalks.{NoNegative}
@@ -320,7 +321,7 @@ matrix_room n p q lp lq apart = grind (arith, nat_tests)
 
 -- the range of an arc's bound
 pub bound_range : (v : LocalView) → IsLocal v → (k : ℕ) → k < length v.arcs
-    → (neg_ℤ (pos 1099511627776) ≤ℤ (local_arc_at v.arcs k).arc.bound) × ((local_arc_at v.arcs k).arc.bound ≤ℤ pos 1099511627776)
+    → (neg_ℤ (pos greatest_bound) ≤ℤ (local_arc_at v.arcs k).arc.bound) × ((local_arc_at v.arcs k).arc.bound ≤ℤ pos greatest_bound)
 bound_range v h k lt =
     let many : length (arcs_in v) ≡ length v.arcs = length-map v.arcs (λ a. a.arc) in
     let here : Contains (arcs_in v) (local_arc_at v.arcs k).arc = (k, omega arith, get_or-map (λ a. a.arc) v.arcs k _ _ lt) in

@@ -4,6 +4,7 @@ use Rattle.std.specs.Prelude.{ℤ, ◌==◌, IfSome, nat_abs}
 use Rattle.std.specs.List.{AllByRecursion, Contains}
 use Rattle.std.proofs.lemmas.Bool.{false≢true}
 use Rattle.std.proofs.lemmas.Bool.Decides.{nat_tests}
+use Rattle.stn_model.specs.Limits.{greatest_bound, greatest_walk, most_points}
 use Rattle.stn_model.specs.declared.ids.Constraint.{Constraint}
 use Rattle.stn_model.specs.ArcWalks.{NoNegative, IsInner, IsInnerLeast, GoesOn}
 use Rattle.stn_model.specs.Inner.{NoNegativeWithin, IsInnerWeight}
@@ -69,8 +70,8 @@ module _ (v : LocalView) (h : IsLocal v) where
   none_to_strange inner i j missing [] g = g
   none_to_strange inner i j missing (a ∷ w) g = strange_goes inner j missing a w g.0 g.2
 
-  -- inner least weights have magnitude at most 2^52
-  arcs_below : IsBelow 4096 (arcs_in v)
+  -- inner least weights have magnitude at most 2^53
+  arcs_below : IsBelow most_points (arcs_in v)
   unfolding IsBelow
   arcs_below = λ a here.
       let there = place_contained v.points a.from.0 (arc_joins v h a here).starts in
@@ -78,13 +79,13 @@ module _ (v : LocalView) (h : IsLocal v) where
       let is = there.2 in
       omega arith
 
-  arcs_light : HasBounds 1099511627776 (arcs_in v)
+  arcs_light : HasBounds greatest_bound (arcs_in v)
   unfolding HasBounds
   arcs_light = λ a here. let join = arc_joins v h a here in (join.low, join.high)
 
   pub weights_light : (inner : ℕ → Bool) (i j : ℕ) (o : Option ℤ) → NoNegative inner (arcs_in v) → IsInnerLeast inner (arcs_in v) i j o
-      → IfSome o (λ w. nat_abs w ≤ 4503599627370496)
-  weights_light inner i j o none_below least = least_light inner (arcs_in v) 4096 1099511627776 i j o arcs_below arcs_light none_below least
+      → IfSome o (λ w. nat_abs w ≤ greatest_walk)
+  weights_light inner i j o none_below least = least_light inner (arcs_in v) most_points greatest_bound i j o arcs_below arcs_light none_below least
 
 module _ (t : TakenView) (h : HasTaken t) where
   -- taken points are private
@@ -110,7 +111,7 @@ module _ (t : TakenView) (h : HasTaken t) where
   }
 
   -- and light
-  pub forward_light : (i j : ℕ) → IfSome (forward_of (arcs_in t.local) (reverse t.order) i j) (λ w. nat_abs w ≤ 4503599627370496)
+  pub forward_light : (i j : ℕ) → IfSome (forward_of (arcs_in t.local) (reverse t.order) i j) (λ w. nat_abs w ≤ greatest_walk)
   forward_light i j =
       weights_light t.local h.known (is_in (before_both (reverse t.order) i j)) i j (forward_of (arcs_in t.local) (reverse t.order) i j) (before_none i j)
       (forward_least i j)

@@ -1,6 +1,7 @@
 -- Taking one private point: what is known stays known, and a point that fails does so as the definition says.
 use Rattle.std.proofs.Common.{zero, suc, ◌≡◌, ◌≢◌, ℕ, ◌<◌, ◌≤◌, List, [], ◌∷◌, ◌++◌, Bool, true, false, ◌&&◌, ◌||◌, not, Option, Some, None, ap, sym}
 use Rattle.std.proofs.Common.{◌∙◌, refl, arith, subst, length, get_or, set, inl, inr}
+use Rattle.stn_model.specs.Limits.{greatest_bound, greatest_walk, most_points}
 use Rattle.stn_walk.proofs.Members.{is_in-at, AllByRecursion-append}
 use Rattle.std.proofs.lemmas.Bool.{and_parts, not-true, cases_order}
 use Rattle.std.specs.Prelude.{ℤ, pos, neg_ℤ, ◌+ℤ◌, ◌≤ℤ◌, ◌<ℤ◌, ◌==◌, if◌then◌else◌, is_some, reverse, IfSome, nat_abs, ◌*◌}
@@ -247,11 +248,11 @@ joined_back v order at joined remain h within p q there =
       before_turned [] i j = refl
       before_turned (k ∷ es) i j = (λ t. if or_turned (is_in (k ∷ es) i) (is_in (k ∷ es) j) t then before_turned es i j t else k ∷ es)
 
--- weights are at most 2^52: a walk that leaves no point twice has at most 4096 arcs, of at most 2^40 each
+-- weights are at most 2^53: a walk that leaves no point twice has at most as many arcs as there are points, of at most 2^40 each
 pub weights_small : (v : LocalView) (order : List ℕ) (at : ℕ → ℕ → Option Cell) (joined : ℕ → ℕ → Bool) (remain : List Bool)
     → IsTaken v order at joined remain
     → (p q : ℕ) → p < length v.points → q < length v.points → p ≢ q
-    → IfSome (weight_at (at p q)) (λ w. (neg_ℤ (pos 4503599627370496) ≤ℤ w) × (w ≤ℤ pos 4503599627370496))
+    → IfSome (weight_at (at p q)) (λ w. (neg_ℤ (pos greatest_walk) ≤ℤ w) × (w ≤ℤ pos greatest_walk))
 unfolding IsBelow HasBounds
 weights_small v order at joined remain h p q lp lq apart =
     let x = point_at v.points p in
@@ -260,18 +261,18 @@ weights_small v order at joined remain h p q lp lq apart =
     let none_below : NoNegative (is_in es) (arcs_in v) =
     λ z w g. h.cells.none_below z w (inner_in (is_in es) (is_in (reverse order)) (arcs_in v) z z w (before-in (reverse order) x y) g) in
     let light =
-    least_light (is_in es) (arcs_in v) 4096 1099511627776 x y (cell_of (arcs_in v) es x y) below bounds none_below
+    least_light (is_in es) (arcs_in v) most_points greatest_bound x y (cell_of (arcs_in v) es x y) below bounds none_below
     (cell-least (arcs_in v) es none_below x y) in
     rw (h.cells.cells p q lp lq apart) (both_ways (cell_of (arcs_in v) es x y) light) where
-      below : IsBelow 4096 (arcs_in v)
+      below : IsBelow most_points (arcs_in v)
       below = λ a here. let l =
           place_contained v.points a.from.0 (arc_joins v h.known a here).starts in let low = points_small v h.known l.0 0 l.1 in let e = l.2 in omega arith
 
-      bounds : HasBounds 1099511627776 (arcs_in v)
+      bounds : HasBounds greatest_bound (arcs_in v)
       bounds = λ a here. let j = arc_joins v h.known a here in (j.low, j.high)
 
-      both_ways : (o : Option ℤ) → IfSome o (λ b. nat_abs b ≤ 4096 * 1099511627776)
-          → IfSome o (λ w. (neg_ℤ (pos 4503599627370496) ≤ℤ w) × (w ≤ℤ pos 4503599627370496))
+      both_ways : (o : Option ℤ) → IfSome o (λ b. nat_abs b ≤ most_points * greatest_bound)
+          → IfSome o (λ w. (neg_ℤ (pos greatest_walk) ≤ℤ w) × (w ≤ℤ pos greatest_walk))
       both_ways None g = tt
       both_ways (Some b) g = (omega (arith, ints), omega (arith, ints))
 

@@ -4,6 +4,7 @@ use Rattle.std.specs.Prelude.{is_some}
 use Rattle.std.specs.List.{All}
 use Rattle.std.proofs.lemmas.List.{length-map}
 use Rattle.std.proofs.lemmas.List.Elements.{All-nil, All-cons}
+use Rattle.stn_model.specs.Limits.{most_points}
 use Rattle.stn_model.specs.Arcs.{to_at}
 use Rattle.stn_model.specs.Net.{arcs_of}
 use Rattle.stn_model.specs.Walks.{IsWalk, weight}
@@ -87,14 +88,14 @@ module _ (t : TakenView) (h : HasTaken t) (summary : List SummaryEntry) (r : IsR
 
       -- where the detour is taken
       module _ (is : (is_pair_at t a b && is_over (horizon_in t.local) (forward_at t a b)) ≡ true) where
-        pub start_range : (0 < i) × (i < 4096)
+        pub start_range : (0 < i) × (i < most_points)
         start_range =
             let small = points_small t.local h.known a 0 start.0 in
             let above = from_above t h a b start.0 end.0 is in
             let e = start.1 in
             (omega arith, omega arith)
 
-        pub end_range : (0 < j) × (j < 4096)
+        pub end_range : (0 < j) × (j < most_points)
         end_range =
             let small = points_small t.local h.known b 0 end.0 in
             let above = to_above t h a b start.0 end.0 is in

@@ -1,5 +1,6 @@
 use Rattle.std.proofs.Common.{◌≡◌, ◌-◌, length}
 use Rattle.std.specs.Prelude.{reverse}
+use Rattle.stn_model.specs.Limits.{most_points}
 use Rattle.private_elim.specs.Picked.{ArePicked}
 use Rattle.private_elim.proofs.eliminate.take_picked.Given as goal
 
@@ -11,4 +12,4 @@ invariant-taking g l = record {
 }
 
 abbrev pub decreases-taking : goal.decreases-taking
-decreases-taking g l = 4096 - length l.elimination.order
+decreases-taking g l = most_points - length l.elimination.order
