@@ -12,7 +12,8 @@ use Rattle.stn_model.specs.Net.{arcs_of}
 use Rattle.stn_model.specs.Refusals.{is_name}
 use Rattle.stn_model.specs.Valid.{IsNetwork, IsArcWithin, IsActWithin}
 use Rattle.stn_model.specs.Walks.{IsNegativeCycle}
-use Rattle.handover_facts.specs.Handover.{handover, refused}
+use Rattle.sample_nets.specs.Samples.{handover}
+use Rattle.handover_facts.specs.Handover.{refused}
 
 pub negative : IsNegativeCycle (arcs_of refused) (1 ∷ 15 ∷ 12 ∷ 10 ∷ [])
 negative = record {

@@ -2,7 +2,7 @@
 use Rattle.std.proofs.Common.{ℤ, pos, List, [], ◌∷◌, refl}
 use Rattle.stn_model.specs.Net.{arcs_of}
 use Rattle.stn_model.specs.Schedules.{KeepsArcs}
-use Rattle.handover_facts.specs.Handover.{handover}
+use Rattle.sample_nets.specs.Samples.{handover}
 use Rattle.handover_facts.proofs.Checked.{keeps-from_test}
 
 abbrev pub late : List ℤ

@@ -9,7 +9,8 @@ use Rattle.stn_model.specs.Conflicts.{own_arcs}
 use Rattle.stn_model.specs.Summaries.{IsSummary, IsSeenPair, is_seen}
 use Rattle.stn_model.proofs.WalkLemmas.{no_schedule}
 use Rattle.stn_walk.specs.Eliminations.{is_in}
-use Rattle.handover_facts.specs.Handover.{handover, ann_entries}
+use Rattle.sample_nets.specs.Samples.{handover}
+use Rattle.handover_facts.specs.Handover.{ann_entries}
 use Rattle.handover_facts.proofs.Cells.{entry-by_cells}
 use Rattle.handover_facts.proofs.Checked.{keeps-from_test, once-from_test, private-past_end, seen-past_end}
 use Rattle.handover_facts.proofs.Schedules.{late, late_keeps}

@@ -9,7 +9,7 @@ use Rattle.stn_model.specs.Kinds.{kind_of, is_own}
 use Rattle.stn_model.specs.Walks.{IsNegativeCycle, IsNormal}
 use Rattle.stn_model.specs.Conflicts.{IsOwnConflict}
 use Rattle.stn_model.specs.Summaries.{IsSummary, Entry}
-use Rattle.handover_facts.specs.Handover.{arc}
+use Rattle.sample_nets.specs.Samples.{arc}
 use Rattle.handover_facts.specs.Detour.{detour}
 
 -- arcs 8 and 9 go round p and q, which are shared; arcs 10 and 11 round p and r

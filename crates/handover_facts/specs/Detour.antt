@@ -9,7 +9,7 @@ use Rattle.stn_model.specs.Conflicts.{own_arcs}
 use Rattle.stn_model.specs.Inner.{IsInnerWeight}
 use Rattle.stn_model.specs.Joined.{joined_order, HasEdge, IsJoined}
 use Rattle.stn_model.specs.Summaries.{IsSummary, Entry}
-use Rattle.handover_facts.specs.Handover.{arc}
+use Rattle.sample_nets.specs.Samples.{arc}
 
 abbrev pub detour : Net
 detour = record {

@@ -1,4 +1,4 @@
--- The network of a handover, and what is true of it: handover, ann_entries, refused, numbers, order, HandoverHolds.
+-- What is true of the network of a handover: ann_entries, refused, numbers, order, HandoverHolds.
 -- Ann works from a1 to a2 and hands over to Bob, who works from b1 to b2.
 use Rattle.std.specs.Prelude.{◌≡◌, ℕ, Bool, ℤ, pos, neg_ℤ, List, [], ◌∷◌, ◌++◌, ◌+◌, take, drop, if◌then◌else◌, Some, None}
 use Rattle.stn_model.specs.declared.ids.Constraint.{Constraint}
@@ -11,22 +11,7 @@ use Rattle.stn_model.specs.Walks.{IsNegativeCycle, IsNormal}
 use Rattle.stn_model.specs.Schedules.{IsConsistent, IsLeastBound}
 use Rattle.stn_model.specs.Valid.{IsNetwork}
 use Rattle.stn_model.specs.Summaries.{IsSummary, Entry}
-
--- an arc from i to j
-abbrev pub arc : ℕ → ℕ → ℤ → Constraint
-arc i j b = record { from = record { 0 = i }; to = record { 0 = j }; bound = b }
-
--- ann has a1 and a2 (1 and 2), bob has b1 and b2 (3 and 4); the given arcs have the numbers 8 to 14
-abbrev pub handover : Net
-handover = record {
-  horizon = pos 100;
-  agents = record { name = 97 ∷ 110 ∷ 110 ∷ []; lean = Early } ∷ record { name = 98 ∷ 111 ∷ 98 ∷ []; lean = Early } ∷ [];
-  places = record { name = 97 ∷ 49 ∷ []; owner = 0 } ∷ record { name = 97 ∷ 50 ∷ []; owner = 0 }
-      ∷ record { name = 98 ∷ 49 ∷ []; owner = 1 } ∷ record { name = 98 ∷ 50 ∷ []; owner = 1 } ∷ [];
-  acts = [];
-  given = arc 0 1 (pos 20) ∷ arc 1 2 (pos 40) ∷ arc 2 1 (neg_ℤ (pos 30)) ∷ arc 2 3 (pos 5) ∷ arc 3 2 (pos 0) ∷ arc 3 4 (pos 20)
-      ∷ arc 4 3 (neg_ℤ (pos 10)) ∷ [];
-}
+use Rattle.sample_nets.specs.Samples.{arc, handover}
 
 -- what ann's part means to the others
 abbrev pub ann_entries : List Entry

@@ -6,47 +6,7 @@ use elim_step::{Picker, Summary, SummaryEntry};
 use private_elim::{Local, PrivateOutcome, Reduced, eliminate_private};
 use std::alloc::Global;
 use std::test::Fail;
-use stn_model::{AgentId, Lean, Network, PointId};
-
-// A network of two agents, with points named by letters, of these owners, and arcs (from, to, bound).
-pub fn build(
-    alloc: Global,
-    horizon: i64,
-    owners: &[u32],
-    arcs: &[(u32, u32, i64)],
-) -> Result<Network, Fail> {
-    let mut net = Network::new(alloc, horizon)?;
-    net.add_agent(alloc, b"ann", Lean::Early)?;
-    net.add_agent(alloc, b"bob", Lean::Early)?;
-    let mut letter = b'a';
-    for owner in owners {
-        let name = [letter];
-        if *owner < net.agents() {
-            net.add_point(alloc, AgentId(*owner), name.as_slice())?;
-        }
-        letter = letter.wrapping_add(1);
-    }
-    for arc in arcs {
-        if arc.0 < net.points() && arc.1 < net.points() {
-            net.add_arc(PointId(arc.0), PointId(arc.1), arc.2)?;
-        }
-    }
-    Ok(net)
-}
-
-// Two people hand work over: ann's points 1 and 2, bob's 3 and 4. Its given arcs have the numbers 8 to 14.
-pub fn handover(alloc: Global) -> Result<Network, Fail> {
-    let arcs = [
-        (0, 1, 20),
-        (1, 2, 40),
-        (2, 1, -30),
-        (2, 3, 5),
-        (3, 2, 0),
-        (3, 4, 20),
-        (4, 3, -10),
-    ];
-    build(alloc, 100, [0, 0, 1, 1].as_slice(), arcs.as_slice())
-}
+use stn_model::{AgentId, Network, PointId};
 
 // An agent's local problem.
 pub fn local_of(alloc: Global, net: &Network, agent: u32) -> Result<Local, Fail>

@@ -2,9 +2,10 @@
 ghost use Rattle.std.specs.Prelude.{◌≡◌, true};
 ghost use Rattle.private_elim.specs.Locals.{all_numbered};
 
-use crate::build::{build, by_factor, entry, local_of, reduced, summary_of};
+use crate::build::{by_factor, entry, local_of, reduced, summary_of};
 use crate::calls::in_order;
 use private_elim::{Local, PrivateOutcome, Reduced, back_sweep};
+use sample_nets::sample;
 use std::alloc::Global;
 use std::process::Abort;
 use std::test::Fail;
@@ -206,7 +207,7 @@ fn has_conflict(alloc: Global, local: &Local) -> Result<bool, Fail> {
 // A network of ann's points 1 to 5 and bob's 6.
 fn some_net(alloc: Global, seed: u64) -> Result<Network, Fail> {
     let arcs = some_arcs(alloc, seed)?;
-    build(alloc, 100, [0, 0, 0, 0, 0, 1].as_slice(), arcs.as_slice())
+    sample(alloc, 100, [0, 0, 0, 0, 0, 1].as_slice(), arcs.as_slice())
 }
 
 // Compares the elimination of a local problem's points with the slow program; whether there is a conflict, and whether a sweep was compared.

@@ -1,8 +1,9 @@
 //! Networks worked by hand.
-use crate::build::{build, by_degree, by_key, entry, handover, local_of, reduced, summary_of};
+use crate::build::{by_degree, by_key, entry, local_of, reduced, summary_of};
 use crate::calls::{in_order, narrowed, walk_of};
 use crate::compare::{has_arcs, has_order, has_walk, is_conflict, swept, tells, weighs};
 use private_elim::{PrivateBounds, Reduced, back_sweep};
+use sample_nets::{handover, sample};
 use std::alloc::Global;
 use std::test::Fail;
 use stn_model::PointId;
@@ -83,7 +84,7 @@ fn ann_is_swept_back(rt: HostRuntime) -> Result<(), Fail> {
 #[test]
 fn a_negative_cycle_is_a_conflict(rt: HostRuntime) -> Result<(), Fail> {
     let arcs = [(1, 2, 3), (2, 1, -5)];
-    let pair = build(rt.alloc(), 10, [0, 0].as_slice(), arcs.as_slice())?;
+    let pair = sample(rt.alloc(), 10, [0, 0].as_slice(), arcs.as_slice())?;
     let outcome = by_degree(rt.alloc(), &pair, 0)?;
     is_conflict(&rt, outcome, [4, 5].as_slice(), 0, 2);
     Ok(())
@@ -93,7 +94,7 @@ fn a_negative_cycle_is_a_conflict(rt: HostRuntime) -> Result<(), Fail> {
 #[test]
 fn a_cycle_through_z_is_a_conflict(rt: HostRuntime) -> Result<(), Fail> {
     let arcs = [(2, 0, -7), (0, 2, 6)];
-    let early = build(rt.alloc(), 10, [0, 0].as_slice(), arcs.as_slice())?;
+    let early = sample(rt.alloc(), 10, [0, 0].as_slice(), arcs.as_slice())?;
     let outcome = by_degree(rt.alloc(), &early, 0)?;
     is_conflict(&rt, outcome, [4, 5].as_slice(), 1, 0);
     Ok(())
@@ -104,7 +105,7 @@ fn a_cycle_through_z_is_a_conflict(rt: HostRuntime) -> Result<(), Fail> {
 fn a_ring_is_a_conflict(rt: HostRuntime) -> Result<(), Fail> {
     let alloc = rt.alloc();
     let arcs = [(1, 2, 5), (2, 3, 5), (3, 1, -11)];
-    let ring = build(alloc, 100, [0, 0, 0].as_slice(), arcs.as_slice())?;
+    let ring = sample(alloc, 100, [0, 0, 0].as_slice(), arcs.as_slice())?;
     let order = [PointId(1), PointId(2), PointId(3)];
     let outcome = in_order(alloc, &local_of(alloc, &ring, 0)?, order.as_slice())?;
     is_conflict(&rt, outcome, [6, 7, 8].as_slice(), 1, 3);
@@ -114,7 +115,7 @@ fn a_ring_is_a_conflict(rt: HostRuntime) -> Result<(), Fail> {
 #[test]
 fn a_cycle_of_weight_0_is_none(rt: HostRuntime) -> Result<(), Fail> {
     let alloc = rt.alloc();
-    let zero = build(
+    let zero = sample(
         alloc,
         10,
         [0, 0].as_slice(),
@@ -131,7 +132,7 @@ fn a_cycle_of_weight_0_is_none(rt: HostRuntime) -> Result<(), Fail> {
 fn a_cycle_of_two_shared_points_is_none(rt: HostRuntime) -> Result<(), Fail> {
     let alloc = rt.alloc();
     let arcs = [(1, 2, 3), (2, 1, -5), (1, 3, 5), (2, 3, 5)];
-    let shared = build(alloc, 10, [0, 0, 1].as_slice(), arcs.as_slice())?;
+    let shared = sample(alloc, 10, [0, 0, 1].as_slice(), arcs.as_slice())?;
     let part = reduced(by_degree(alloc, &shared, 0)?)?;
     let told = [
         entry(0, 1, 10),
@@ -147,7 +148,7 @@ fn a_cycle_of_two_shared_points_is_none(rt: HostRuntime) -> Result<(), Fail> {
 
 #[test]
 fn a_picker_chooses_the_order(rt: HostRuntime) -> Result<(), Fail> {
-    let free = build(rt.alloc(), 10, [0, 0].as_slice(), [].as_slice())?;
+    let free = sample(rt.alloc(), 10, [0, 0].as_slice(), [].as_slice())?;
     let part = reduced(by_key(rt.alloc(), &local_of(rt.alloc(), &free, 0)?, false)?)?;
     has_order(&rt, &part, [2, 1].as_slice());
     Ok(())
@@ -157,7 +158,7 @@ fn a_picker_chooses_the_order(rt: HostRuntime) -> Result<(), Fail> {
 #[test]
 fn degrees_count_joined_points(rt: HostRuntime) -> Result<(), Fail> {
     let arcs = [(2, 1, 5), (3, 1, 7)];
-    let net = build(rt.alloc(), 10, [0, 0, 0, 0].as_slice(), arcs.as_slice())?;
+    let net = sample(rt.alloc(), 10, [0, 0, 0, 0].as_slice(), arcs.as_slice())?;
     let part = reduced(by_key(rt.alloc(), &local_of(rt.alloc(), &net, 0)?, true)?)?;
     has_order(&rt, &part, [1, 4, 2, 3].as_slice());
     Ok(())
@@ -168,7 +169,7 @@ fn degrees_count_joined_points(rt: HostRuntime) -> Result<(), Fail> {
 fn a_pair_without_a_walk_has_the_horizon(rt: HostRuntime) -> Result<(), Fail> {
     let alloc = rt.alloc();
     let arcs = [(2, 1, 5), (3, 1, 7), (2, 4, 9), (3, 4, 9)];
-    let net = build(alloc, 50, [0, 0, 0, 1].as_slice(), arcs.as_slice())?;
+    let net = sample(alloc, 50, [0, 0, 0, 1].as_slice(), arcs.as_slice())?;
     let part = reduced(by_degree(alloc, &net, 0)?)?;
     let told = [
         entry(0, 2, 50),

@@ -3,7 +3,8 @@ use Rattle.std.proofs.lemmas.Bool.{false≢true}
 use Rattle.stn_model.specs.Net.{arcs_of, point_count}
 use Rattle.stn_model.proofs.WalkLemmas.{no_schedule}
 use Rattle.stn_walk.proofs.Joins.{joined-from_order, order-from_joined}
-use Rattle.handover_facts.specs.Handover.{handover, refused, order}
+use Rattle.sample_nets.specs.Samples.{handover}
+use Rattle.handover_facts.specs.Handover.{refused, order}
 use Rattle.handover_facts.proofs.Schedules.{late, early, late_keeps, early_keeps}
 use Rattle.handover_facts.proofs.Summary.{summary_of_ann}
 use Rattle.handover_facts.proofs.Facts.{is_network, negative}
