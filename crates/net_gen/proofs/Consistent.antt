@@ -97,7 +97,8 @@ generated_is_consistent number size low =
     let given = All-append (Keeps times) (chains number size) (handovers number size) (chains_keep number size low) (handovers_keep number size low) in
     let horizon : All (Keeps times) (horizon_arcs (pos 1000000) (length (generated number size).places)) =
     horizon_keeps number n (length (generated number size).places) (omega arith) in
-    let all = All-append (Keeps times) (horizon_arcs (pos 1000000) (length (generated number size).places)) (generated number size).given horizon given in (
+    let fixed = All-append (Keeps times) (horizon_arcs (pos 1000000) (length (generated number size).places)) [] horizon (λ k d lt. absurd (omega arith)) in
+    let all = All-append (Keeps times) (horizon_arcs (pos 1000000) (length (generated number size).places) ++ []) (generated number size).given fixed given in (
       times,
       record {
         one_each = let many : length (map (λ (q : ℕ). pos (time_of number q)) (range_with_len 0 n)) ≡ n = length-map-range_with_len _ 0 n in omega arith;

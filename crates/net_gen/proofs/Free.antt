@@ -1,5 +1,5 @@
 -- What a network that is being generated does not refuse.
-use Rattle.std.proofs.Common.{◌≡◌, ◌≢◌, ℕ, suc, ◌/◌, ◌%◌, ◌<◌, Bool, true, false, nat_le, nat_lt, List, [], ◌∷◌, length, map, get_or, None, refl, ap, ◌∙◌, arith, ℤ, pos, neg_ℤ, ◌≤ℤ◌, rules}
+use Rattle.std.proofs.Common.{◌≡◌, ◌≢◌, ℕ, suc, ◌+◌, ◌*◌, ◌/◌, ◌%◌, ◌<◌, Bool, true, false, nat_le, nat_lt, List, [], ◌∷◌, length, map, get_or, None, refl, ap, ◌∙◌, arith, ℤ, pos, neg_ℤ, ◌≤ℤ◌, rules}
 use Rattle.std.specs.Bool.{Decides}
 use Rattle.std.specs.List.{position, position_or_len, range_with_len}
 use Rattle.std.specs.Str.{bytes_eq}
@@ -8,6 +8,7 @@ use Rattle.std.proofs.lemmas.Slice.Eq.{bytes_eq-Decides}
 use Rattle.std.proofs.lemmas.List.{get_or-map, length-map}
 use Rattle.std.proofs.lemmas.List.FromFn.{get_or-map-range_with_len, length-map-range_with_len}
 use Rattle.std.proofs.Math.Nat.{div-le_self, mod-le}
+use Rattle.stn_model.specs.Limits.{most_points, most_arcs, greatest_bound}
 use Rattle.stn_model.specs.Net.{Net, Agent, Place, find_agent, find_point, point_count, no_agent, no_place}
 use Rattle.stn_model.specs.Refusals.{agent_refusal, point_refusal, arc_refusal, is_name}
 use Rattle.net_gen.specs.Generated.{agent_name, agent_at, point_name, place_at, width}
@@ -79,8 +80,9 @@ point_is_free net size q e none lt =
     let new = no_point_yet net size q e (omega arith) in
     let open_yet : length net.given ≡ 0 = ap length none in
     let many : length net.places ≡ q = rw e (length-map-range_with_len (place_at size) 0 q) in
-    let few : nat_le 4096 (point_count net) ≡ false = grind (arith, nat_tests) in
+    let few : nat_le most_points (point_count net) ≡ false = grind (arith, nat_tests) in
     rw (form, new, open_yet, few) refl
 
-pub arc_is_free : (net : Net) (from to : ℕ) (bound : ℤ) → from ≢ to → neg_ℤ (pos 1099511627776) ≤ℤ bound → bound ≤ℤ pos 1099511627776 → length net.given < 65536 → arc_refusal net from to bound ≡ None
+pub arc_is_free : (net : Net) (from to : ℕ) (bound : ℤ) → from ≢ to → neg_ℤ (pos greatest_bound) ≤ℤ bound → bound ≤ℤ pos greatest_bound
+    → 2 * length net.acts + length net.given < most_arcs → arc_refusal net from to bound ≡ None
 arc_is_free net from to bound ne low high few = search rules

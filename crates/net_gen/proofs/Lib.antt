@@ -3,3 +3,4 @@ pub mod Free
 pub mod Places
 pub mod Consistent
 pub mod Drawing
+pub mod Results

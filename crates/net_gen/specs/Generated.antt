@@ -94,5 +94,6 @@ generated number size = record {
   horizon = pos 1000000;
   agents = map agent_at (range_with_len 0 size);
   places = map (place_at size) (range_with_len 0 (point_total size));
+  acts = [];
   given = chains number size ++ handovers number size;
 }

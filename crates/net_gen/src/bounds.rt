@@ -1,5 +1,6 @@
 //! The bounds of generated networks: between neighbours of one agent, and between agents.
 ghost use Rattle.std.specs.Prelude.{◌≡◌, ◌≢◌, ◌+◌, ◌-◌, ◌*◌, ◌<◌, ◌≤◌, [], ◌++◌, length, slice_index, OnOk, pos, neg_ℤ, ◌-ℤ◌, ◌+ℤ◌, ◌≤ℤ◌, ◌∷◌};
+ghost use Rattle.stn_model.specs.Limits.{most_arcs, greatest_bound};
 ghost use Rattle.stn_model.specs.Net.{point_count};
 ghost use Rattle.net_gen.specs.Generated.{width, point_total, gap_total, handover_total, AreTimes, bound_arcs, drawn_bound, chain_at, handover_at, chains, handovers, draws_before};
 
@@ -32,8 +33,8 @@ fn most(apart: i64, high: u32) -> i64
     requires apart_high { apart ≤ℤ pos 4294967296 }
     requires high_fits { high < 5000 }
     ensures value { result ≡ apart +ℤ pos high }
-    ensures low { neg_ℤ (pos 1099511627776) ≤ℤ result }
-    ensures high { result ≤ℤ pos 1099511627776 }
+    ensures low { neg_ℤ (pos greatest_bound) ≤ℤ result }
+    ensures high { result ≤ℤ pos greatest_bound }
 {
     apart + i64::from(high)
 }
@@ -44,8 +45,8 @@ fn least_turned(apart: i64, low: u32) -> i64
     requires apart_high { apart ≤ℤ pos 4294967296 }
     requires low_fits { low < 5000 }
     ensures value { result ≡ neg_ℤ (apart -ℤ pos low) }
-    ensures low { neg_ℤ (pos 1099511627776) ≤ℤ result }
-    ensures high { result ≤ℤ pos 1099511627776 }
+    ensures low { neg_ℤ (pos greatest_bound) ≤ℤ result }
+    ensures high { result ≤ℤ pos greatest_bound }
 {
     i64::from(low) - apart
 }
@@ -55,13 +56,13 @@ fn lay_arc(net: &mut Network, from: PointId, to: PointId, bound: i64) -> Result<
     requires from_in { from.0 < point_count net.old }
     requires to_in { to.0 < point_count net.old }
     requires different { from.0 ≢ to.0 }
-    requires low { neg_ℤ (pos 1099511627776) ≤ℤ bound }
-    requires high { bound ≤ℤ pos 1099511627776 }
-    requires few { length net.old.given < 65536 }
+    requires low { neg_ℤ (pos greatest_bound) ≤ℤ bound }
+    requires high { bound ≤ℤ pos greatest_bound }
+    requires few { length net.old.given < most_arcs }
+    requires no_acts { net.old.acts ≡ [] }
     ensures { OnOk result (net.new ≡ record net.old { given = net.old.given ++ record { from = from; to = to; bound = bound } ∷ [] }) }
 {
-    new_arc(net, from, to, bound)?;
-    Ok(())
+    new_arc(net, from, to, bound)
 }
 
 /// Adds the two arcs of a bound from `apart - low` to `apart + high`.
@@ -82,6 +83,7 @@ fn lay_bound(
     requires high_fits { high < 5000 }
     requires points { point_count net.old < 5000 }
     requires arcs { length net.old.given < 65000 }
+    requires no_acts { net.old.acts ≡ [] }
     ensures { OnOk result (net.new ≡ record net.old { given = net.old.given ++ bound_arcs from to apart low high }) }
 {
     let start = PointId(from + 1);
@@ -89,8 +91,7 @@ fn lay_bound(
     let up = most(apart, high);
     let down = least_turned(apart, low);
     lay_arc(net, start, end, up)?;
-    lay_arc(net, end, start, down)?;
-    Ok(())
+    lay_arc(net, end, start, down)
 }
 
 /// Adds a bound round the distance of two times. The next two draws say how far it lies below and
@@ -112,6 +113,7 @@ fn add_bound(
     requires high { below ≤ 5000 }
     requires points_fit { length times.now ≤ 2048 }
     requires arcs { length net.old.given < 65000 }
+    requires no_acts { net.old.acts ≡ [] }
     requires few { draws.old.count < 1000000 }
     ensures given { OnOk result (net.new ≡ record net.old { given = net.old.given ++ drawn_bound draws.old.number from to (draws.old.count + 1) below }) }
     ensures counted { OnOk result (draws.new ≡ record draws.old { count = draws.old.count + 2 }) }
@@ -119,8 +121,7 @@ fn add_bound(
     let apart = apart(times, from, to);
     let low = draws.draw(below);
     let high = draws.draw(below);
-    lay_bound(net, from, to, apart, low, high)?;
-    Ok(())
+    lay_bound(net, from, to, apart, low, high)
 }
 
 /// The first point of an agent, of all points counted from 0.
@@ -149,14 +150,14 @@ fn add_chain(
     requires many { length times.now ≡ point_total size }
     requires points { point_count net.old ≡ point_total size + 1 }
     requires arcs { length net.old.given < 65000 }
+    requires no_acts { net.old.acts ≡ [] }
     requires drawn { draws.old.count ≡ point_total size + 2 * gap }
     ensures given { OnOk result (net.new ≡ record net.old { given = net.old.given ++ chain_at draws.old.number size gap }) }
     ensures counted { OnOk result (draws.new ≡ record draws.old { count = draws.old.count + 2 }) }
 {
     let gaps = 2 * size - 1;
     let from = first_point(size, gap / gaps) + gap % gaps;
-    add_bound(net, draws, times, from, from + 1, NEAR)?;
-    Ok(())
+    add_bound(net, draws, times, from, from + 1, NEAR)
 }
 
 /// Adds the bounds between the neighbours of each agent.
@@ -172,6 +173,7 @@ pub fn add_chains(
     requires many { length times.now ≡ point_total size }
     requires points { point_count net.old ≡ point_total size + 1 }
     requires none { net.old.given ≡ [] }
+    requires no_acts { net.old.acts ≡ [] }
     requires drawn { draws.old.count ≡ point_total size }
     ensures given { OnOk result (net.new ≡ record net.old { given = net.old.given ++ chains draws.old.number size }) }
     ensures counted { OnOk result (draws.new ≡ record draws.old { count = point_total size + 2 * gap_total size }) }
@@ -198,6 +200,7 @@ fn add_handover(
     requires many { length times.now ≡ point_total size }
     requires points { point_count net.old ≡ point_total size + 1 }
     requires arcs { length net.old.given < 65000 }
+    requires no_acts { net.old.acts ≡ [] }
     requires drawn { draws.old.count ≡ draws_before size handover }
     ensures given { OnOk result (net.new ≡ record net.old { given = net.old.given ++ handover_at draws.old.number size handover }) }
     ensures counted { OnOk result (draws.new ≡ record draws.old { count = draws.old.count + 4 }) }
@@ -205,8 +208,7 @@ fn add_handover(
     let agent = handover / 2;
     let from = first_point(size, agent) + draws.draw(2 * size);
     let to = first_point(size, agent + 1) + draws.draw(2 * size);
-    add_bound(net, draws, times, from, to, FAR)?;
-    Ok(())
+    add_bound(net, draws, times, from, to, FAR)
 }
 
 /// Adds two bounds between each agent and the next.
@@ -222,6 +224,7 @@ pub fn add_handovers(
     requires many { length times.now ≡ point_total size }
     requires points { point_count net.old ≡ point_total size + 1 }
     requires arcs { length net.old.given ≡ 2 * gap_total size }
+    requires no_acts { net.old.acts ≡ [] }
     requires drawn { draws.old.count ≡ point_total size + 2 * gap_total size }
     ensures { OnOk result (net.new ≡ record net.old { given = net.old.given ++ handovers draws.old.number size }) }
 {

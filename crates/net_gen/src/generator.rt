@@ -97,6 +97,5 @@ pub fn make(alloc: Global, number: u32, size: u32) -> Result<Network, OutOfMemor
     ensures network { IfOk result (λ net. net ≡ generated number size) }
     ensures consistent { IfOk result (λ net. IsConsistent (point_count net) (arcs_of net)) }
 {
-    let net = build(alloc, number, size)?;
-    Ok(net)
+    build(alloc, number, size)
 }

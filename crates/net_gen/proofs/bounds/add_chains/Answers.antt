@@ -1,4 +1,5 @@
 use Rattle.std.proofs.Common.{◌≡◌, ◌+◌, ◌*◌, ℕ, ap, ◌∙◌, refl, length, arith}
+use Rattle.stn_model.specs.Net.{Net}
 use Rattle.net_gen.specs.Draws.{DrawState}
 use Rattle.net_gen.specs.Generated.{point_total, chain_at}
 use Rattle.net_gen.proofs.Places.{length-given, given_more, gap_total_small}
@@ -25,3 +26,6 @@ returns-clause-many c =
     let many = length-given c.args.net.now c.loop-gap.net (chain_at c.args.draws.now.number c.args.size) c.loop-gap.gap (λ k. refl) c.loop-gap.invariant.net in
     let none = ap length c.requires.none in
     omega arith
+
+pub add_chain-requires-clause-no_acts : goal.add_chain-requires-clause-no_acts
+add_chain-requires-clause-no_acts c = ap (λ (m : Net). m.acts) c.loop-gap.invariant.net ∙ c.requires.no_acts

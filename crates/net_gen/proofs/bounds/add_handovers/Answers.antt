@@ -1,4 +1,5 @@
 use Rattle.std.proofs.Common.{◌≡◌, ◌+◌, ℕ, ap, ◌∙◌, refl, arith}
+use Rattle.stn_model.specs.Net.{Net}
 use Rattle.net_gen.specs.Draws.{DrawState}
 use Rattle.net_gen.specs.Generated.{draws_before, handover_at}
 use Rattle.net_gen.proofs.Places.{length-given, given_more, gap_total_small}
@@ -19,3 +20,6 @@ loop-handover-preserved c =
       net = given_more c.args.net.now c.loop-handover.net c.add_handover.new.net (λ (k n : ℕ). handover_at k c.args.size n) c.loop-handover.draws.number c.args.draws.now.number c.loop-handover.handover (ap (λ (s : DrawState). s.number) c.loop-handover.invariant.draws) c.loop-handover.invariant.net c.in_ok-add_handover.ensures.given;
       draws = c.in_ok-add_handover.ensures.counted ∙ ap (λ (k : ℕ). record c.loop-handover.draws { count = k }) sum ∙ ap (λ (s : DrawState). record s { count = draws_before c.args.size (c.loop-handover.handover + 1) }) c.loop-handover.invariant.draws;
     }
+
+pub add_handover-requires-clause-no_acts : goal.add_handover-requires-clause-no_acts
+add_handover-requires-clause-no_acts c = ap (λ (m : Net). m.acts) c.loop-handover.invariant.net ∙ c.requires.no_acts
