@@ -20,4 +20,6 @@ pub mod Members
 pub mod Joins
 pub mod Potentials
 pub mod Distances
+pub mod ButOne
+pub mod PrivateArcs
 mod Detours
