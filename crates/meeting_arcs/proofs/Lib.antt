@@ -1,0 +1,10 @@
+pub mod Expansions
+pub mod Contractions
+pub mod HiddenPoints
+pub mod OwnConflicts
+pub mod Pieces
+pub mod SummaryArcs
+pub mod EntryWalks
+pub mod MeetingLists
+pub mod WholeOrders
+pub mod Agreements
