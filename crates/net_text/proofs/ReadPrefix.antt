@@ -20,7 +20,7 @@ abbrev is_feed : ℕ → Bool
 is_feed b = b == 10
 
 -- bytes have no line feed, or are cut at their first one
-cut_or_whole : (bytes : List ℕ) → (parts bytes ≡ bytes ∷ []) ⊎ Cut bytes
+pub cut_or_whole : (bytes : List ℕ) → (parts bytes ≡ bytes ∷ []) ⊎ Cut bytes
 cut_or_whole [] = inl refl
 cut_or_whole (b ∷ bs) =
     (elim (is_feed b) as (λ t. is_feed b ≡ t → (parts (b ∷ bs) ≡ (b ∷ bs) ∷ []) ⊎ Cut (b ∷ bs)) [
@@ -90,12 +90,12 @@ onward (Ends net) n k left r next e =
 onward (Fails c) n k left r next e = absurd (cc)
 
 -- so many bytes of a text are its first line, its line feed and what was taken of the rest
-taken_after : (line left : List ℕ) (m : ℕ) → take (length line + 1 + m) (line ++ 10 ∷ left) ≡ line ++ 10 ∷ take m left
+pub taken_after : (line left : List ℕ) (m : ℕ) → take (length line + 1 + m) (line ++ 10 ∷ left) ≡ line ++ 10 ∷ take m left
 taken_after line left m =
     let more : length line + 1 + m ≡ length line + suc m = omega arith in
     ap (λ (k : ℕ). take k (line ++ 10 ∷ left)) more ∙ take-append-add line (10 ∷ left) (suc m)
 
-lines_fed : (bytes : List ℕ) (c : Cut bytes) (more : List ℕ)
+pub lines_fed : (bytes : List ℕ) (c : Cut bytes) (more : List ℕ)
     → lines (c.line ++ 10 ∷ more) ≡ record { text = line_of c.line; size = length c.line + 1 } ∷ lines more
 lines_fed bytes c more = ap lines_of (c.splits more) ∙ lines_before c.line more
 

@@ -53,6 +53,10 @@ pub enum TextCause {
     AfterDecouple,
     /// The line stands before the agents are decoupled.
     BeforeDecouple,
+    /// The line stands after the clock was started.
+    AfterExecute,
+    /// The line stands before the clock is started.
+    BeforeExecute,
     /// The reference point has no time to be chosen.
     ReferencePoint,
     /// The script has no `done` line.
@@ -93,6 +97,8 @@ impl TextCause {
             TextCause::EmptyBatch => b"EmptyBatch",
             TextCause::AfterDecouple => b"AfterDecouple",
             TextCause::BeforeDecouple => b"BeforeDecouple",
+            TextCause::AfterExecute => b"AfterExecute",
+            TextCause::BeforeExecute => b"BeforeExecute",
             TextCause::ReferencePoint => b"ReferencePoint",
             TextCause::NoDone => b"NoDone",
             TextCause::AfterDone => b"AfterDone",
