@@ -20,7 +20,7 @@ lines_feed l more text =
     ∙ lines_of_more l (parts more) (omega (arith, length-slice_split (λ b. b == 10) more))
     ∙ ap (λ k. record { text = k; size = length l + 1 } ∷ lines more) (line_of_text l text)
 
-length-line : (w : List ℕ) (fs : List (List ℕ)) → length (line w fs) ≡ length (w ++ spaced fs) + 1
+pub length-line : (w : List ℕ) (fs : List (List ℕ)) → length (line w fs) ≡ length (w ++ spaced fs) + 1
 length-line w fs = length-append (w ++ spaced fs) (10 ∷ [])
 
 -- THE STEP OF READING. A written line is its word and its fields with one space before each, and then a line feed.

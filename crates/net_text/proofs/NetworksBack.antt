@@ -103,7 +103,7 @@ lean_is_field Early = record { filled = refl; solid = refl }
 lean_is_field Late = record { filled = refl; solid = refl }
 lean_is_field Middle = record { filled = refl; solid = refl }
 
-not_below : (a b : ℤ) → b ≤ℤ a → int_lt a b ≡ false
+pub not_below : (a b : ℤ) → b ≤ℤ a → int_lt a b ≡ false
 not_below a b h = grind (arith, ints)
 
 -- AGENTS. A network has names of the right form that differ pairwise, and few agents. So the name of the next agent
@@ -476,7 +476,7 @@ place_back net valid q lt =
     (subst (λ (k : List ℕ). position (bytes_eq k) (point_names net) ≡ Some q) is
     (position_back (point_names net) q valid.points_differ (omega (arith, length-map net.places (λ (p : Place). p.name)))))
 
-point_back : (net : Net) → IsNetwork net → (p : ℕ) → p < point_count net → find_point net (point_name_of net p) ≡ Some p
+pub point_back : (net : Net) → IsNetwork net → (p : ℕ) → p < point_count net → find_point net (point_name_of net p) ≡ Some p
 point_back net valid p lt =
     ⊎_elim
     (λ (first : p ≡ 0). ap (find_point net) (point_name_first net p first) ∙ ap Some (sym first))
@@ -485,7 +485,7 @@ point_back net valid p lt =
     ap (find_point net) (point_name_later net p later) ∙ place_back net valid (p - 1) (omega arith) ∙ ap Some back)
     (cases_eq p 0)
 
-point_name_is_field : (net : Net) → IsNetwork net → (p : ℕ) → p < point_count net → IsField (point_name_of net p)
+pub point_name_is_field : (net : Net) → IsNetwork net → (p : ℕ) → p < point_count net → IsField (point_name_of net p)
 point_name_is_field net valid p lt =
     ⊎_elim
     (λ (first : p ≡ 0). subst IsField (sym (point_name_first net p first)) (record { filled = refl; solid = refl }))

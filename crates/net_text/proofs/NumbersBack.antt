@@ -1,5 +1,5 @@
 -- A written number is read as itself.
-use Rattle.std.proofs.Common.{◌≡◌, ℕ, suc, ◌^◌, ◌<◌, ◌≤◌, ℤ, pos, negsuc, neg_ℤ, ◌≤ℤ◌, true, false, ◌&&◌, ◌==◌, nat_le, List, [], ◌∷◌, length, Some, None, refl, ap, ◌∙◌, arith, if◌then◌else◌}
+use Rattle.std.proofs.Common.{◌≡◌, ℕ, suc, ◌^◌, ◌<◌, ◌≤◌, ℤ, pos, negsuc, neg_ℤ, ◌≤ℤ◌, nat_abs, true, false, ◌&&◌, ◌==◌, nat_le, List, [], ◌∷◌, length, Some, None, refl, ap, ◌∙◌, arith, if◌then◌else◌}
 use Rattle.std.specs.List.{list_all}
 use Rattle.std.specs.Option.{option_map}
 use Rattle.std.specs.Str.{all_ascii_digits}
@@ -33,7 +33,7 @@ decimal_is_field n small = record {
   solid = digits_solid (decimal n) (digits_decimal own n small);
 }
 
-magnitude-decimal : (n : ℕ) → n ≤ 1099511627776 → magnitude_of (decimal n) ≡ Some n
+magnitude-decimal : (n : ℕ) → n < 1000000000000000000 → magnitude_of (decimal n) ≡ Some n
 magnitude-decimal n small =
     let low : nat_le 1 (length (decimal n)) ≡ true = le-leb 1 (length (decimal n)) (decimal_nonempty n (omega arith)) in
     let high : nat_le (length (decimal n)) 18 ≡ true = le-leb (length (decimal n)) 18 (length-decimal-le 18 n (omega arith) (omega arith) (omega arith)) in
@@ -54,18 +54,24 @@ number_plain (d ∷ ds) h some =
     no_sign : (d : ℕ) → is_ascii_digit d ≡ true → (d == 45) ≡ false
     no_sign d h = grind (arith, nat_tests)
 
-pub number-signed_decimal : (z : ℤ) → neg_ℤ (pos 1099511627776) ≤ℤ z → z ≤ℤ pos 1099511627776 → number_of (signed_decimal z) ≡ Some z
-number-signed_decimal (pos n) low high =
-    let small : n ≤ 1099511627776 = omega (arith, ints) in
+-- a number of at most 18 digits
+pub number_back : (z : ℤ) → nat_abs z < 1000000000000000000 → number_of (signed_decimal z) ≡ Some z
+number_back (pos n) small =
     number_plain (decimal n) (digits_decimal own n (omega arith)) (decimal_nonempty n (omega arith)) ∙ ap (option_map pos) (magnitude-decimal n small)
-number-signed_decimal (negsuc n) low high =
-    let small : suc n ≤ 1099511627776 = omega (arith, ints) in
-    ap (option_map (λ k. neg_ℤ (pos k))) (magnitude-decimal (suc n) small)
+number_back (negsuc n) small = ap (option_map (λ k. neg_ℤ (pos k))) (magnitude-decimal (suc n) small)
+
+pub short_is_field : (z : ℤ) → nat_abs z < 1000000000000000000 → IsField (signed_decimal z)
+short_is_field (pos n) small = decimal_is_field n (omega arith)
+short_is_field (negsuc n) small =
+    record { filled = filled_from_length (signed_decimal (negsuc n)) (omega arith); solid = (decimal_is_field (suc n) (omega arith)).solid }
+
+-- so is a number that a network may have
+pub bound_short : (z : ℤ) → neg_ℤ (pos 1099511627776) ≤ℤ z → z ≤ℤ pos 1099511627776 → nat_abs z < 1000000000000000000
+bound_short (pos n) low high = let small : n ≤ 1099511627776 = omega (arith, ints) in omega arith
+bound_short (negsuc n) low high = let small : suc n ≤ 1099511627776 = omega (arith, ints) in omega arith
+
+pub number-signed_decimal : (z : ℤ) → neg_ℤ (pos 1099511627776) ≤ℤ z → z ≤ℤ pos 1099511627776 → number_of (signed_decimal z) ≡ Some z
+number-signed_decimal z low high = number_back z (bound_short z low high)
 
 pub number_is_field : (z : ℤ) → neg_ℤ (pos 1099511627776) ≤ℤ z → z ≤ℤ pos 1099511627776 → IsField (signed_decimal z)
-number_is_field (pos n) low high =
-    let small : n ≤ 1099511627776 = omega (arith, ints) in
-    decimal_is_field n (omega arith)
-number_is_field (negsuc n) low high =
-    let small : suc n ≤ 1099511627776 = omega (arith, ints) in
-    record { filled = filled_from_length (signed_decimal (negsuc n)) (omega arith); solid = (decimal_is_field (suc n) (omega arith)).solid }
+number_is_field z low high = short_is_field z (bound_short z low high)
