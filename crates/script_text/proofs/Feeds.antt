@@ -34,7 +34,8 @@ parts-append : (text more : List ℕ) → parts (text ++ 10 ∷ more) ≡ parts 
 parts-append [] more = refl
 parts-append (b ∷ bs) more =
     let rest = parts-append bs more in
-    elim (b == 10) as (λ t. cond t ([] ∷ parts (bs ++ 10 ∷ more)) (onto_first b (parts (bs ++ 10 ∷ more))) ≡ cond t ([] ∷ parts bs) (onto_first b (parts bs)) ++ parts more) [
+    elim (b == 10) as (λ t. cond t ([] ∷ parts (bs ++ 10 ∷ more)) (onto_first b (parts (bs ++ 10 ∷ more)))
+    ≡ cond t ([] ∷ parts bs) (onto_first b (parts bs)) ++ parts more) [
       | true ↦ ap (λ (ps : List (List ℕ)). [] ∷ ps) rest
       | false ↦ ap (onto_first b) rest ∙ onto_first-append b (parts bs) (parts more) (some_part bs)
     ]
@@ -50,7 +51,8 @@ some_after (p ∷ ps) qs h = omega arith
 lines_of-append : (ps qs : List (List ℕ)) → 0 < length qs → lines_of (ps ++ qs) ≡ fed ps ++ lines_of qs
 lines_of-append [] qs h = refl
 lines_of-append (p ∷ ps) qs h =
-    lines_of-more p (ps ++ qs) (some_after ps qs h) ∙ ap (λ (ls : List Sized). record { text = line_of p; size = length p + 1 } ∷ ls) (lines_of-append ps qs h)
+    lines_of-more p (ps ++ qs) (some_after ps qs h)
+    ∙ ap (λ (ls : List Sized). record { text = line_of p; size = length p + 1 } ∷ ls) (lines_of-append ps qs h)
 
 lines_fed : (text more : List ℕ) → lines (text ++ 10 ∷ more) ≡ fed (parts text) ++ lines more
 lines_fed text more = ap lines_of (parts-append text more) ∙ lines_of-append (parts text) (parts more) (some_part more)
@@ -61,7 +63,8 @@ concluded_alike (Goes t) number count used k m x h e = h t e
 concluded_alike (Ends cs) number count used k m x h e = e
 concluded_alike (Fails c) number count used k m x h e = cc
 
-read_from-append : (net : Net) (r : Reading) (first count used : ℕ) (ls more : List Sized) (x : ScriptRead) → read_from net r first count used ls ≡ Ok x → read_from net r first count used (ls ++ more) ≡ Ok x
+read_from-append : (net : Net) (r : Reading) (first count used : ℕ) (ls more : List Sized) (x : ScriptRead)
+    → read_from net r first count used ls ≡ Ok x → read_from net r first count used (ls ++ more) ≡ Ok x
 read_from-append net r first count used [] more x e = cc
 read_from-append net r first count used (l ∷ ls) more x e =
     concluded_alike (line_does net r l.text) (first + count) (count + 1) (used + l.size)
@@ -69,7 +72,8 @@ read_from-append net r first count used (l ∷ ls) more x e =
     (λ t. read_from net t first (count + 1) (used + l.size) (ls ++ more)) x
     (λ t h. read_from-append net t first (count + 1) (used + l.size) ls more x h) e
 
-pub done_ends : (net : Net) (first : ℕ) (text more : List ℕ) (x : ScriptRead) → script_of net first (text ++ 10 ∷ []) ≡ Ok x → script_of net first (text ++ 10 ∷ more) ≡ Ok x
+pub done_ends : (net : Net) (first : ℕ) (text more : List ℕ) (x : ScriptRead) → script_of net first (text ++ 10 ∷ []) ≡ Ok x
+    → script_of net first (text ++ 10 ∷ more) ≡ Ok x
 done_ends net first text more x e =
     let alone : lines (text ++ 10 ∷ []) ≡ fed (parts text) = lines_fed text [] ∙ append-nil (fed (parts text)) in
     let all = lines_fed text more in

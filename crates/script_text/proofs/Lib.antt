@@ -3,3 +3,7 @@ pub mod Turns
 pub mod Within
 pub mod Grows
 pub mod Feeds
+pub mod Prefix
+pub mod Skipped
+pub mod Tested
+pub mod ReadBack

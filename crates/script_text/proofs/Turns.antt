@@ -11,13 +11,15 @@ pub record IsLeft (net : Net) (first : ℕ) (bytes : List ℕ) (r : Reading) (re
   pub said : script_of net first bytes ≡ read_from net r first count used (lines rest)
   pub room : used + length rest ≡ length bytes
 
-turn : (net : Net) (first : ℕ) (bytes : List ℕ) (r : Reading) (rest : List ℕ) (used count : ℕ) (line left : List ℕ) (used_after count_after : ℕ) (step : Step)
+turn : (net : Net) (first : ℕ) (bytes : List ℕ) (r : Reading) (rest : List ℕ) (used count : ℕ) (line left : List ℕ) (used_after count_after : ℕ)
+    (step : Step)
     → IsLeft net first bytes r rest used count → IsTaken rest used count line left used_after count_after → line_does net r line ≡ step
     → script_of net first bytes ≡ conclude step (first + count) count_after used_after (λ t. read_from net t first count_after used_after (lines left))
 turn net first bytes r rest used count line left used_after count_after step h taken does =
     h.said ∙ ap (read_from net r first count used) taken.first.splits ∙ rw (taken.drops, taken.uses, taken.one_more, does)
 
-pub ends : (net : Net) (first : ℕ) (bytes : List ℕ) (r : Reading) (rest : List ℕ) (used count : ℕ) (line left : List ℕ) (used_after count_after : ℕ) (cs : List Command)
+pub ends : (net : Net) (first : ℕ) (bytes : List ℕ) (r : Reading) (rest : List ℕ) (used count : ℕ) (line left : List ℕ) (used_after count_after : ℕ)
+    (cs : List Command)
     → IsLeft net first bytes r rest used count → IsTaken rest used count line left used_after count_after → line_does net r line ≡ Ends cs
     → script_of net first bytes ≡ Ok (record { script = cs; used = used_after; lines = count_after })
 ends net first bytes r rest used count line left used_after count_after cs h taken does =

@@ -1,10 +1,11 @@
--- Scripts: how far a script has come, what its next line does, and what a whole text says.
-use Rattle.std.specs.Prelude.{ℕ, ◌+◌, ◌≡◌, ◌≢◌, ◌<◌, ◌≤◌, Bool, true, false, not, ◌&&◌, nat_le, List, [], ◌∷◌, ◌++◌, length, is_some, Option, Some, None, Result, Ok, Err, if◌then◌else◌}
+-- Scripts: how far a script has come, what its next line does, and what a whole text says: Reading, beginning, Step, unless, with_command,
+-- is_full, add_joint, add_decoupled, add_clockless, add_executing, tighten, decouple, execute, begin_batch, add_to_batch, add_arc, close_batch,
+-- close, does, does_what, line_does, missing, conclude, read_from, script_of, Reads, reading_of, Takes.
+use Rattle.std.specs.Prelude.{ℕ, ◌+◌, ◌*◌, ◌≡◌, Bool, not, nat_le, List, [], ◌∷◌, ◌++◌, length, is_some, Option, Some, None, Result, Ok, Err, if◌then◌else◌}
 use Rattle.std.specs.Option.{option_map}
-use Rattle.std.specs.List.{AllByRecursion}
 use Rattle.stn_model.specs.declared.ids.Constraint.{Constraint}
-use Rattle.stn_model.specs.Net.{Net, point_count}
-use Rattle.stn_model.specs.Valid.{IsArcWithin}
+use Rattle.stn_model.specs.Limits.{most_arcs}
+use Rattle.stn_model.specs.Net.{Net}
 use Rattle.net_text.specs.declared.cause.TextCause.{TextCause}
 use Rattle.net_text.specs.declared.cause.TextCause.TheVariants as cause
 use Rattle.net_text.specs.declared.cause.TextError.{TextError}
@@ -14,22 +15,26 @@ use Rattle.script_text.specs.declared.command.Command.{Command}
 use Rattle.script_text.specs.declared.command.Command.TheVariants as command
 use Rattle.script_text.specs.declared.line.Line.{Line}
 use Rattle.script_text.specs.declared.line.Line.TheVariants as line
+use Rattle.script_text.specs.declared.phase.Phase.{Phase}
+use Rattle.script_text.specs.declared.phase.Phase.TheVariants.{Joint, Decoupled, Executing}
 use Rattle.script_text.specs.declared.read.ScriptRead.{ScriptRead}
 use Rattle.script_text.specs.declared.stage.Stage.{Stage}
 use Rattle.script_text.specs.declared.stage.Next.{Next}
 use Rattle.script_text.specs.declared.stage.Next.TheVariants as next
 use Rattle.script_text.specs.Lines.{line_in}
+use Rattle.script_text.specs.Phases.{is_decoupled, is_executing}
 
--- how far a script has come: its commands, the arcs of a batch that is begun, whether the agents are decoupled, and how many arcs the network and the script have so far
+-- how far a script has come: its commands, the arcs of a batch that is begun, how far the work has come, and how many arcs the network and
+-- the script have so far, those of the horizon left out
 pub record Reading : Type 0 where
   pub commands : List Command
   pub batch : Option (List Constraint)
-  pub decoupled : Bool
+  pub phase : Phase
   pub arcs : ℕ
 
--- a network's given arcs count from the beginning
+-- two arcs for each act and the given arcs count from the beginning
 abbrev pub beginning : Net → Reading
-beginning net = record { commands = []; batch = None; decoupled = false; arcs = length net.given }
+beginning net = record { commands = []; batch = None; phase = Joint; arcs = 2 * length net.acts + length net.given }
 
 -- what a line does: the script goes on, it ends with its commands, or the line is refused
 pub data Step : Type 0 where
@@ -46,23 +51,43 @@ with_command r c = record r { commands = r.commands ++ c ∷ [] }
 
 -- one arc more would be more than the limit
 abbrev pub is_full : Reading → Bool
-is_full r = nat_le 65536 r.arcs
+is_full r = nat_le most_arcs r.arcs
+
+-- a command that stands before the decoupling
+abbrev pub add_joint : Reading → Command → Step
+add_joint r c = unless (is_decoupled r.phase) cause.AfterDecouple (Goes (with_command r c))
 
 -- a command that stands after the decoupling
 abbrev pub add_decoupled : Reading → Command → Step
-add_decoupled r c = unless (not r.decoupled) cause.BeforeDecouple (Goes (with_command r c))
+add_decoupled r c = unless (not (is_decoupled r.phase)) cause.BeforeDecouple (Goes (with_command r c))
+
+-- a command that stands after the decoupling, before the clock is started
+abbrev pub add_clockless : Reading → Command → Step
+add_clockless r c =
+    unless (not (is_decoupled r.phase)) cause.BeforeDecouple (unless (is_executing r.phase) cause.AfterExecute (Goes (with_command r c)))
+
+-- a command that stands after the clock was started
+abbrev pub add_executing : Reading → Command → Step
+add_executing r c =
+    unless (not (is_decoupled r.phase)) cause.BeforeDecouple (unless (not (is_executing r.phase)) cause.BeforeExecute (Goes (with_command r c)))
 
 abbrev pub tighten : Reading → Constraint → Step
 tighten r arc =
-    unless r.decoupled cause.AfterDecouple (unless (is_full r) cause.TooManyArcs
+    unless (is_decoupled r.phase) cause.AfterDecouple (unless (is_full r) cause.TooManyArcs
     (Goes (record (with_command r (command.Tighten arc)) { arcs = r.arcs + 1 })))
 
 abbrev pub decouple : Reading → Step
 decouple r =
-    unless r.decoupled cause.AfterDecouple (Goes (record (with_command r command.Decouple) { decoupled = true }))
+    unless (is_decoupled r.phase) cause.AfterDecouple (Goes (record (with_command r command.Decouple) { phase = Decoupled }))
+
+-- the start of the clock
+abbrev pub execute : Reading → Step
+execute r =
+    unless (not (is_decoupled r.phase)) cause.BeforeDecouple (unless (is_executing r.phase) cause.AfterExecute
+    (Goes (record (with_command r command.Execute) { phase = Executing })))
 
 abbrev pub begin_batch : Reading → Step
-begin_batch r = unless r.decoupled cause.AfterDecouple (Goes (record r { batch = Some [] }))
+begin_batch r = unless (is_decoupled r.phase) cause.AfterDecouple (Goes (record r { batch = Some [] }))
 
 -- one arc more of the batch that is begun
 abbrev pub add_to_batch : Reading → Constraint → Option (List Constraint) → Step
@@ -92,8 +117,12 @@ does r (line.Tighten arc) = tighten r arc
 does r line.BeginBatch = begin_batch r
 does r (line.BatchArc arc) = add_arc r arc
 does r line.CloseBatch = close r
+does r (line.Withdraw arc) = add_joint r (command.Withdraw arc)
 does r line.Decouple = decouple r
-does r (line.Choose point time) = add_decoupled r (command.Choose point time)
+does r (line.Choose point time) = add_clockless r (command.Choose point time)
+does r line.Execute = execute r
+does r (line.Advance time) = add_executing r (command.Advance time)
+does r (line.Do point) = add_executing r (command.Do point)
 does r line.Schedule = add_decoupled r command.Schedule
 does r line.Done = Ends r.commands
 
@@ -134,70 +163,10 @@ Reads (Err OutOfMemory) said = Unit {0}
 
 -- what the reader keeps of a script, as a reading
 abbrev pub reading_of : Stage → Reading
-reading_of s = record { commands = s.commands.items; batch = option_map (λ v. v.items) s.batch; decoupled = s.decoupled; arcs = s.arcs }
+reading_of s = record { commands = s.commands.items; batch = option_map (λ v. v.items) s.batch; phase = s.phase; arcs = s.arcs }
 
 -- the reader took a line that does this, and has come that far
 abbrev pub Takes : Next → Reading → Step → Type 0
 Takes next.Goes r step = step ≡ Goes r
 Takes next.Ends r step = step ≡ Ends r.commands
 Takes (next.Fails c) r step = step ≡ Fails c
-
--- how many arcs a command adds
-abbrev pub command_arcs : Command → ℕ
-command_arcs command.Bounds = 0
-command_arcs command.Windows = 0
-command_arcs (command.Prove from to) = 0
-command_arcs (command.Tighten arc) = 1
-command_arcs (command.Batch arcs) = length arcs
-command_arcs command.Decouple = 0
-command_arcs (command.Choose point time) = 0
-command_arcs command.Schedule = 0
-
--- how many arcs commands add together
-abbrev pub script_arcs : List Command → ℕ
-script_arcs [] = 0
-script_arcs (c ∷ cs) = command_arcs c + script_arcs cs
-
--- the points of a command are in range and differ, that of a `choose` is not z, and the arcs are arcs that the network may have
-abbrev pub IsCommandOf : Net → Command → Type 0
-IsCommandOf net command.Bounds = Unit {0}
-IsCommandOf net command.Windows = Unit {0}
-IsCommandOf net (command.Prove from to) = (from.0 < point_count net) × (to.0 < point_count net) × (from.0 ≢ to.0)
-IsCommandOf net (command.Tighten arc) = IsArcWithin (point_count net) arc
-IsCommandOf net (command.Batch arcs) = AllByRecursion (IsArcWithin (point_count net)) arcs × (0 < length arcs)
-IsCommandOf net command.Decouple = Unit {0}
-IsCommandOf net (command.Choose point time) = (point.0 < point_count net) × (0 < point.0)
-IsCommandOf net command.Schedule = Unit {0}
-
--- a command may stand where the agents are decoupled already, or are not
-abbrev pub may_stand : Bool → Command → Bool
-may_stand decoupled command.Bounds = true
-may_stand decoupled command.Windows = true
-may_stand decoupled (command.Prove from to) = true
-may_stand decoupled (command.Tighten arc) = not decoupled
-may_stand decoupled (command.Batch arcs) = not decoupled
-may_stand decoupled command.Decouple = not decoupled
-may_stand decoupled (command.Choose point time) = decoupled
-may_stand decoupled command.Schedule = decoupled
-
--- whether the agents are decoupled after a command
-abbrev pub decoupled_by : Bool → Command → Bool
-decoupled_by decoupled command.Bounds = decoupled
-decoupled_by decoupled command.Windows = decoupled
-decoupled_by decoupled (command.Prove from to) = decoupled
-decoupled_by decoupled (command.Tighten arc) = decoupled
-decoupled_by decoupled (command.Batch arcs) = decoupled
-decoupled_by decoupled command.Decouple = true
-decoupled_by decoupled (command.Choose point time) = decoupled
-decoupled_by decoupled command.Schedule = decoupled
-
--- each command may stand where it stands
-abbrev pub stand_in_order : Bool → List Command → Bool
-stand_in_order decoupled [] = true
-stand_in_order decoupled (c ∷ cs) = may_stand decoupled c && stand_in_order (decoupled_by decoupled c) cs
-
--- what is true of the commands of every script that is read for a network
-pub record IsScriptOf (net : Net) (cs : List Command) : Type 0 where
-  pub commands : AllByRecursion (IsCommandOf net) cs
-  pub few_arcs : length net.given + script_arcs cs ≤ 65536
-  pub order : stand_in_order false cs ≡ true

@@ -1,13 +1,18 @@
 //! The lines of scripts, by their words and fields.
 ghost use Rattle.std.specs.Prelude.{◌≡◌, map};
-ghost use Rattle.net_text.specs.Networks.{is_beyond};
-ghost use Rattle.script_text.specs.Lines.{number_in, point_in, arc_between, arc_in, alone, prove_between, prove_line, choose_at, choose_line, arc_line, tighten_line, batch_arc_line, line_outside, line_inside, line_by_word, line_of};
+ghost use Rattle.script_text.specs.Lines.{number_in, arc_number_in, point_in, arc_allowed, arc_in, alone, prove_between, prove_line, free_point_in, choose_at, choose_line, withdraw_line, advance_line, do_line, arc_line, tighten_line, batch_arc_line, line_outside, line_inside, line_of, line_in};
 
 use crate::line::Line;
 use crate::words::{Word, word_of};
 use net_text::TextCause;
+use net_text::arcs::{arc_between, is_beyond};
+use net_text::fields::first_fields;
+use net_text::lines::{is_skipped, is_text};
 use net_text::numbers::number_of;
-use stn_model::{Constraint, GREATEST_BOUND, Network, PointId};
+use stn_model::{Constraint, Network, PointId};
+
+/// One field more than the longest line has.
+const MOST_FIELDS: usize = 5;
 
 /// The number of a field.
 fn number_in(field: &[u8]) -> Result<i64, TextCause>
@@ -29,16 +34,20 @@ fn point_in(net: &Network, field: &[u8]) -> Result<PointId, TextCause>
     }
 }
 
-/// Whether the bound has magnitude above 2^40.
-fn is_beyond(bound: i64) -> bool
-    ensures { result ≡ is_beyond bound }
+/// The number of a field that stands for an arc: from 0 on, and below 2^32.
+fn arc_number_in(field: &[u8]) -> Result<u32, TextCause>
+    ensures { result ≡ arc_number_in field.now }
 {
-    bound < -GREATEST_BOUND || bound > GREATEST_BOUND
+    let number = number_in(field)?;
+    if number < 0 || number > i64::from(u32::MAX) {
+        return Err(TextCause::NumberBad);
+    }
+    Ok(number as u32)
 }
 
-/// The arc of these ends.
-fn arc_between(bound: i64, from: PointId, to: PointId) -> Result<Constraint, TextCause>
-    ensures { result ≡ arc_between bound from to }
+/// The arc of these ends, whose bound is in range.
+fn arc_allowed(bound: i64, from: PointId, to: PointId) -> Result<Constraint, TextCause>
+    ensures { result ≡ arc_allowed bound from to }
 {
     if from.0 == to.0 {
         return Err(TextCause::SamePoint);
@@ -46,7 +55,7 @@ fn arc_between(bound: i64, from: PointId, to: PointId) -> Result<Constraint, Tex
     if is_beyond(bound) {
         return Err(TextCause::BoundRange);
     }
-    Ok(Constraint { from, to, bound })
+    Ok(arc_between(from, to, bound))
 }
 
 /// The arc of three fields.
@@ -56,7 +65,7 @@ fn arc_in(net: &Network, from: &[u8], to: &[u8], bound: &[u8]) -> Result<Constra
     let bound = number_in(bound)?;
     let from = point_in(net, from)?;
     let to = point_in(net, to)?;
-    arc_between(bound, from, to)
+    arc_allowed(bound, from, to)
 }
 
 /// A line of its word alone.
@@ -91,15 +100,23 @@ fn prove_line(net: &Network, fields: &[&[u8]]) -> Result<Line, TextCause>
     prove_between(net, from, to)
 }
 
+/// The point of a field, which is not the reference point.
+fn free_point_in(net: &Network, field: &[u8]) -> Result<PointId, TextCause>
+    ensures { result ≡ free_point_in net.now field.now }
+{
+    let point = point_in(net, field)?;
+    if point.0 == 0 {
+        return Err(TextCause::ReferencePoint);
+    }
+    Ok(point)
+}
+
 /// A `choose` line of a point and a time.
 fn choose_at(net: &Network, point: &[u8], time: &[u8]) -> Result<Line, TextCause>
     ensures { result ≡ choose_at net.now point.now time.now }
 {
     let time = number_in(time)?;
-    let point = point_in(net, point)?;
-    if point.0 == 0 {
-        return Err(TextCause::ReferencePoint);
-    }
+    let point = free_point_in(net, point)?;
     Ok(Line::Choose {
         point,
         time: i128::from(time),
@@ -114,6 +131,41 @@ fn choose_line(net: &Network, fields: &[&[u8]]) -> Result<Line, TextCause>
         return Err(TextCause::FieldCount);
     };
     choose_at(net, point, time)
+}
+
+/// A `withdraw` line, by the fields after its word.
+fn withdraw_line(fields: &[&[u8]]) -> Result<Line, TextCause>
+    ensures { result ≡ withdraw_line (map (λ f. f.now) fields.now) }
+{
+    let [number] = fields else {
+        return Err(TextCause::FieldCount);
+    };
+    let arc = arc_number_in(number)?;
+    Ok(Line::Withdraw { arc })
+}
+
+/// An `advance` line, by the fields after its word.
+fn advance_line(fields: &[&[u8]]) -> Result<Line, TextCause>
+    ensures { result ≡ advance_line (map (λ f. f.now) fields.now) }
+{
+    let [time] = fields else {
+        return Err(TextCause::FieldCount);
+    };
+    let time = number_in(time)?;
+    Ok(Line::Advance {
+        time: i128::from(time),
+    })
+}
+
+/// A `do` line, by the fields after its word.
+fn do_line(net: &Network, fields: &[&[u8]]) -> Result<Line, TextCause>
+    ensures { result ≡ do_line net.now (map (λ f. f.now) fields.now) }
+{
+    let [point] = fields else {
+        return Err(TextCause::FieldCount);
+    };
+    let point = free_point_in(net, point)?;
+    Ok(Line::Do { point })
 }
 
 /// The arc of a line, by the fields after its word.
@@ -153,8 +205,12 @@ fn line_outside(net: &Network, word: Word, fields: &[&[u8]]) -> Result<Line, Tex
         Word::Tighten => tighten_line(net, fields),
         Word::Batch => alone(Line::BeginBatch, fields),
         Word::Arc | Word::Close => Err(TextCause::UnknownWord),
+        Word::Withdraw => withdraw_line(fields),
         Word::Decouple => alone(Line::Decouple, fields),
         Word::Choose => choose_line(net, fields),
+        Word::Execute => alone(Line::Execute, fields),
+        Word::Advance => advance_line(fields),
+        Word::Do => do_line(net, fields),
         Word::Schedule => alone(Line::Schedule, fields),
         Word::Done => alone(Line::Done, fields),
     }
@@ -172,7 +228,7 @@ fn line_inside(net: &Network, word: Word, fields: &[&[u8]]) -> Result<Line, Text
 }
 
 /// What a line asks for, by its fields; `inside` says whether a batch is begun.
-pub fn line_of(net: &Network, inside: bool, fields: &[&[u8]]) -> Result<Line, TextCause>
+fn line_of(net: &Network, inside: bool, fields: &[&[u8]]) -> Result<Line, TextCause>
     ensures { result ≡ line_of net.now inside (map (λ f. f.now) fields.now) }
 {
     let [first, rest @ ..] = fields else {
@@ -184,4 +240,19 @@ pub fn line_of(net: &Network, inside: bool, fields: &[&[u8]]) -> Result<Line, Te
         (Some(word), false) => line_outside(net, word, rest),
         (Some(word), true) => line_inside(net, word, rest),
     }
+}
+
+/// What a line asks for; `inside` says whether a batch is begun. A blank line and a comment ask for nothing.
+pub fn line_in(net: &Network, inside: bool, text: &[u8]) -> Result<Line, TextCause>
+    ensures { result ≡ line_in net.now inside text.now }
+{
+    if is_skipped(text) {
+        return Ok(Line::Nothing);
+    }
+    if !is_text(text) {
+        return Err(TextCause::NotText);
+    }
+    let mut fields = [b"".as_slice(); MOST_FIELDS];
+    let count = first_fields(text, &mut fields);
+    line_of(net, inside, &fields[..count])
 }

@@ -6,6 +6,7 @@ pub mod command;
 mod grammar;
 pub mod laws;
 mod line;
+mod phase;
 pub mod read;
 mod stage;
 #[cfg(test)]

@@ -13,8 +13,12 @@ pub enum Line {
     BeginBatch,
     BatchArc { arc: Constraint },
     CloseBatch,
+    Withdraw { arc: u32 },
     Decouple,
     Choose { point: PointId, time: i128 },
+    Execute,
+    Advance { time: i128 },
+    Do { point: PointId },
     Schedule,
     Done,
 }

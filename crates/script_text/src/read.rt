@@ -1,21 +1,18 @@
 //! Reading a script.
 ghost use Rattle.std.specs.Prelude.{◌≡◌, ◌+◌, ◌<◌, ◌≤◌, ◌^◌, length, IfOk};
-ghost use Rattle.script_text.specs.Lines.{line_in};
-ghost use Rattle.script_text.specs.Scripts.{IsScriptOf, Reads, Takes, line_does, reading_of, script_of};
+ghost use Rattle.script_text.specs.Scripts.{Reads, Takes, line_does, reading_of, script_of};
+ghost use Rattle.script_text.specs.Possible.{IsScriptOf};
+ghost use Rattle.script_text.specs.Laws.{IsPrefixRead};
 
 use crate::command::Command;
-use crate::grammar::line_of;
-use crate::line::Line;
+use crate::grammar::line_in;
 use crate::stage::{Next, Stage};
-use net_text::fields::fields_of;
-use net_text::lines::{Lines, is_skipped, is_text};
-use net_text::{TextCause, TextError};
+use net_text::TextError;
+use net_text::arcs::counted_arcs;
+use net_text::lines::Lines;
 use std::alloc::Global;
 use std::marker::Model;
 use stn_model::{Network, OutOfMemory};
-
-/// No line of the grammar has as many fields.
-const TOO_MANY_FIELDS: usize = 5;
 
 /// A list of commands.
 #[derive(Drop)]
@@ -52,7 +49,8 @@ pub struct ScriptRead {
     pub lines: u32,
 }
 
-/// Reads a script from the front of a text. The first line of the text has the number `first_line`.
+/// Reads a script from the front of a text, for a network whose points its lines name. The first line of the text has the number
+/// `first_line`, which is below 2^32 together with the number of bytes. What follows the `done` line is not looked at.
 ///
 /// # Errors
 ///
@@ -67,9 +65,11 @@ pub fn read_script(
 ) -> Result<ScriptRead, TextError>
     requires { length bytes.now + first_line < 2 ^ 32 }
     ensures reads { Reads result (script_of net.now first_line bytes.now) }
-    ensures within { IfOk result (λ r. IsScriptOf net.now r.script) }
+    ensures within { IfOk result (λ r. (r.used ≤ length bytes.now) × (r.lines ≤ r.used)) }
+    ensures prefix { IfOk result (IsPrefixRead net.now first_line bytes.now) }
+    ensures possible { IfOk result (λ r. IsScriptOf net.now r.script) }
 {
-    let mut stage = Stage::new(alloc, given_arcs(net));
+    let mut stage = Stage::new(alloc, counted_arcs(net));
     let mut lines = Lines::new(bytes);
     while let Some(text) = lines.next_line() {
         let Ok(next) = take_line(alloc, net, &mut stage, text) else {
@@ -100,33 +100,6 @@ pub fn read_script(
     })
 }
 
-/// How many arcs were given.
-fn given_arcs(net: &Network) -> u32
-    ensures count { result ≡ length net.now.given }
-    ensures few { result ≤ 65536 }
-{
-    net.arcs() - 2 * (net.points() - 1)
-}
-
-/// What a line asks for; `inside` says whether a batch is begun.
-fn line_in(
-    alloc: Global,
-    net: &Network,
-    inside: bool,
-    text: &[u8],
-) -> Result<Result<Line, TextCause>, OutOfMemory>
-    ensures { IfOk result (λ r. r ≡ line_in net.now inside text.now) }
-{
-    if is_skipped(text) {
-        return Ok(Ok(Line::Nothing));
-    }
-    if !is_text(text) {
-        return Ok(Err(TextCause::NotText));
-    }
-    let fields = fields_of(alloc, text, TOO_MANY_FIELDS)?;
-    Ok(line_of(net, inside, fields.as_slice()))
-}
-
 /// Takes a line.
 fn take_line(
     alloc: Global,
@@ -136,7 +109,7 @@ fn take_line(
 ) -> Result<Next, OutOfMemory>
     ensures { IfOk result (λ n. Takes n (reading_of stage.new) (line_does net.now (reading_of stage.old) text.now)) }
 {
-    match line_in(alloc, net, stage.batch.is_some(), text)? {
+    match line_in(net, stage.batch.is_some(), text) {
         Ok(line) => stage.take(alloc, line),
         Err(cause) => Ok(Next::Fails(cause)),
     }

@@ -1,11 +1,13 @@
 //! How far a script has come, and what its next line does to it.
 ghost use Rattle.std.specs.Prelude.{◌≡◌, [], None, false, IfOk};
 ghost use Rattle.script_text.specs.Scripts.Step.{Goes};
-ghost use Rattle.script_text.specs.Scripts.{reading_of, with_command, add_decoupled, tighten, begin_batch, add_arc, close, decouple, does, missing, Takes};
+ghost use Rattle.script_text.specs.declared.phase.Phase.TheVariants.{Joint};
+ghost use Rattle.script_text.specs.Scripts.{reading_of, with_command, add_joint, add_decoupled, add_clockless, add_executing, tighten, begin_batch, add_arc, close, decouple, execute, does, missing, Takes};
 
 use crate::batch::Batch;
 use crate::command::Command;
 use crate::line::Line;
+use crate::phase::Phase;
 use net_text::TextCause;
 use std::alloc::Global;
 use stn_model::{Constraint, MOST_ARCS, OutOfMemory};
@@ -17,9 +19,9 @@ pub struct Stage {
     pub commands: Vec<Command>,
     /// The arcs of the batch that is begun, if one is.
     pub batch: Option<Vec<Constraint>>,
-    /// Whether the agents are decoupled.
-    pub decoupled: bool,
-    /// How many arcs the network and the script have so far.
+    /// How far the work has come.
+    pub phase: Phase,
+    /// How many arcs the network and the script have so far. Those of the horizon do not count.
     pub arcs: u32,
 }
 
@@ -35,15 +37,15 @@ pub enum Next {
 }
 
 impl Stage {
-    /// No line was read, and the network has that many given arcs.
-    pub fn new(alloc: Global, given: u32) -> Self
-        ensures { reading_of result ≡ record { commands = []; batch = None; decoupled = false; arcs = given } }
+    /// No line was read, and the network has that many arcs that count.
+    pub fn new(alloc: Global, arcs: u32) -> Self
+        ensures { reading_of result ≡ record { commands = []; batch = None; phase = Joint; arcs = arcs } }
     {
         Stage {
             commands: Vec::new(alloc),
             batch: None,
-            decoupled: false,
-            arcs: given,
+            phase: Phase::Joint,
+            arcs,
         }
     }
 
@@ -60,8 +62,12 @@ impl Stage {
             Line::BeginBatch => Ok(self.begin_batch(alloc)),
             Line::BatchArc { arc } => self.add_arc(arc),
             Line::CloseBatch => self.close(),
+            Line::Withdraw { arc } => self.add_joint(Command::Withdraw { arc }),
             Line::Decouple => self.decouple(),
-            Line::Choose { point, time } => self.add_decoupled(Command::Choose { point, time }),
+            Line::Choose { point, time } => self.add_clockless(Command::Choose { point, time }),
+            Line::Execute => self.execute(),
+            Line::Advance { time } => self.add_executing(Command::Advance { time }),
+            Line::Do { point } => self.add_executing(Command::Do { point }),
             Line::Schedule => self.add_decoupled(Command::Schedule),
             Line::Done => Ok(Next::Ends),
         }
@@ -85,12 +91,48 @@ impl Stage {
         Ok(Next::Goes)
     }
 
+    /// One command more, which stands before the decoupling.
+    fn add_joint(&mut self, command: Command) -> Result<Next, OutOfMemory>
+        ensures { IfOk result (λ n. Takes n (reading_of self.new) (add_joint (reading_of self.old) command)) }
+    {
+        if self.phase.is_decoupled() {
+            return Ok(Next::Fails(TextCause::AfterDecouple));
+        }
+        self.add(command)
+    }
+
     /// One command more, which stands after the decoupling.
     fn add_decoupled(&mut self, command: Command) -> Result<Next, OutOfMemory>
         ensures { IfOk result (λ n. Takes n (reading_of self.new) (add_decoupled (reading_of self.old) command)) }
     {
-        if !self.decoupled {
+        if !self.phase.is_decoupled() {
             return Ok(Next::Fails(TextCause::BeforeDecouple));
+        }
+        self.add(command)
+    }
+
+    /// One command more, which stands after the decoupling and before the clock is started.
+    fn add_clockless(&mut self, command: Command) -> Result<Next, OutOfMemory>
+        ensures { IfOk result (λ n. Takes n (reading_of self.new) (add_clockless (reading_of self.old) command)) }
+    {
+        if !self.phase.is_decoupled() {
+            return Ok(Next::Fails(TextCause::BeforeDecouple));
+        }
+        if self.phase.is_executing() {
+            return Ok(Next::Fails(TextCause::AfterExecute));
+        }
+        self.add(command)
+    }
+
+    /// One command more, which stands after the clock was started.
+    fn add_executing(&mut self, command: Command) -> Result<Next, OutOfMemory>
+        ensures { IfOk result (λ n. Takes n (reading_of self.new) (add_executing (reading_of self.old) command)) }
+    {
+        if !self.phase.is_decoupled() {
+            return Ok(Next::Fails(TextCause::BeforeDecouple));
+        }
+        if !self.phase.is_executing() {
+            return Ok(Next::Fails(TextCause::BeforeExecute));
         }
         self.add(command)
     }
@@ -99,7 +141,7 @@ impl Stage {
     fn tighten(&mut self, arc: Constraint) -> Result<Next, OutOfMemory>
         ensures { IfOk result (λ n. Takes n (reading_of self.new) (tighten (reading_of self.old) arc)) }
     {
-        if self.decoupled {
+        if self.phase.is_decoupled() {
             return Ok(Next::Fails(TextCause::AfterDecouple));
         }
         if self.arcs >= MOST_ARCS {
@@ -113,7 +155,7 @@ impl Stage {
     fn begin_batch(&mut self, alloc: Global) -> Next
         ensures { Takes result (reading_of self.new) (begin_batch (reading_of self.old)) }
     {
-        if self.decoupled {
+        if self.phase.is_decoupled() {
             return Next::Fails(TextCause::AfterDecouple);
         }
         self.batch = Some(Vec::new(alloc));
@@ -153,10 +195,24 @@ impl Stage {
     fn decouple(&mut self) -> Result<Next, OutOfMemory>
         ensures { IfOk result (λ n. Takes n (reading_of self.new) (decouple (reading_of self.old))) }
     {
-        if self.decoupled {
+        if self.phase.is_decoupled() {
             return Ok(Next::Fails(TextCause::AfterDecouple));
         }
-        self.decoupled = true;
+        self.phase = Phase::Decoupled;
         self.add(Command::Decouple)
+    }
+
+    /// The start of the clock.
+    fn execute(&mut self) -> Result<Next, OutOfMemory>
+        ensures { IfOk result (λ n. Takes n (reading_of self.new) (execute (reading_of self.old))) }
+    {
+        if !self.phase.is_decoupled() {
+            return Ok(Next::Fails(TextCause::BeforeDecouple));
+        }
+        if self.phase.is_executing() {
+            return Ok(Next::Fails(TextCause::AfterExecute));
+        }
+        self.phase = Phase::Executing;
+        self.add(Command::Execute)
     }
 }

@@ -1,34 +1,14 @@
-//! Scripts for one small network, with what they say, and texts that are refused.
+//! Scripts for the handover, with what they say, and texts that are refused.
 use crate::{Command, read_script};
 use net_text::{TextCause, TextError};
+use sample_nets::handover;
 use std::alloc::Global;
 use std::process::Abort;
 use std::test::Fail;
 use stn_model::{AgentId, Lean, Network, PointId};
 
-/// Ann hands over to Bob. Points: a1 is 1, a2 is 2, b1 is 3, b2 is 4. Its text has 13 lines.
-fn handover(rt: &impl Abort, alloc: Global) -> Result<Network, Fail> {
-    let mut net = Network::new(alloc, 100)?;
-    net.add_agent(alloc, b"ann".as_slice(), Lean::Early)?;
-    net.add_agent(alloc, b"bob".as_slice(), Lean::Early)?;
-    for (agent, name) in [(0, b"a1"), (0, b"a2"), (1, b"b1"), (1, b"b2")] {
-        assert!(rt; agent < net.agents());
-        net.add_point(alloc, AgentId(agent), name.as_slice())?;
-    }
-    for (from, to, bound) in [
-        (0, 1, 20),
-        (1, 2, 40),
-        (2, 1, -30),
-        (2, 3, 5),
-        (3, 2, 0),
-        (3, 4, 20),
-        (4, 3, -10),
-    ] {
-        assert!(rt; from < net.points() && to < net.points());
-        net.add_arc(PointId(from), PointId(to), bound)?;
-    }
-    Ok(net)
-}
+/// A script's first line after the handover's own 13.
+const FIRST_LINE: u32 = 14;
 
 /// The commands in one line, with points by number.
 fn written(alloc: Global, commands: &[Command]) -> Result<String, Fail> {
@@ -48,29 +28,62 @@ fn written(alloc: Global, commands: &[Command]) -> Result<String, Fail> {
                 }
                 text.push_str(";")?
             }
+            Command::Withdraw { arc } => write!(text, "withdraw {arc};")?,
             Command::Decouple => text.push_str("decouple;")?,
             Command::Choose { point, time } => write!(text, "choose {} {};", point.0, time)?,
+            Command::Execute => text.push_str("execute;")?,
+            Command::Advance { time } => write!(text, "advance {time};")?,
+            Command::Do { point } => write!(text, "do {};", point.0)?,
             Command::Schedule => text.push_str("schedule;")?,
         }
     }
     Ok(text)
 }
 
+/// Each text is a script of so many bytes and lines, with these commands.
+fn are_read(
+    rt: &impl Abort,
+    alloc: Global,
+    texts: &[(&str, usize, u32, &str)],
+) -> Result<(), Fail> {
+    let net = handover(alloc)?;
+    for (text, used, lines, want) in texts {
+        assert!(rt; text.len() < 1000);
+        let read = read_script(alloc, &net, text.as_bytes(), FIRST_LINE)?;
+        assert_eq!(rt; (read.used, read.lines), (*used, *lines), "{text}");
+        let commands = written(alloc, read.script.commands())?;
+        assert_eq!(rt; commands.as_str(), *want, "{text}");
+    }
+    Ok(())
+}
+
+/// Each text is refused for the network, at that line and for that cause.
+fn are_refused(
+    rt: &impl Abort,
+    alloc: Global,
+    net: &Network,
+    texts: &[(&str, u32, TextCause)],
+) -> Result<(), Fail> {
+    for (text, line, cause) in texts {
+        assert!(rt; text.len() < 1000);
+        let read = read_script(alloc, net, text.as_bytes(), FIRST_LINE);
+        let want = TextError::At {
+            line: *line,
+            cause: *cause,
+        };
+        assert_eq!(rt; read.err(), Some(want), "{text}");
+    }
+    Ok(())
+}
+
 #[test]
-fn scripts_are_read(rt: HostRuntime) -> Result<(), Fail> {
-    let alloc = rt.alloc();
-    let net = handover(&rt, alloc)?;
-    for (text, used, lines, want) in [
-        ("done\n", 5, 1, ""),
-        ("done", 4, 1, ""),
-        ("bounds\r\ndone\r\n", 14, 2, "bounds;"),
-        ("bounds\ndone\nnonsense\n\u{1}", 12, 2, "bounds;"),
-        ("\n# a comment\n prove\tb1  z \ndone\n", 32, 4, "prove 3 0;"),
+fn each_command_is_read(rt: HostRuntime) -> Result<(), Fail> {
+    let texts = [
         (
-            "windows\ntighten z b1 -030\ntighten a1 b2 1099511627776\nprove z a1\ndone\n",
-            70,
-            5,
-            "windows;tighten 0 3 -30;tighten 1 4 1099511627776;prove 0 1;",
+            "bounds\nwindows\nprove b1 z\ntighten a1 b2 1099511627776\nwithdraw 4294967295\ndecouple\nchoose b2 -999999999999999999\nexecute\nadvance -1\ndo a1\nschedule\ndone\n",
+            152,
+            12,
+            "bounds;windows;prove 3 0;tighten 1 4 1099511627776;withdraw 4294967295;decouple;choose 4 -999999999999999999;execute;advance -1;do 1;schedule;",
         ),
         (
             "batch\narc z b1 40\n# a comment between\n\narc a1 z -15\nclose\nwindows\ndone\n",
@@ -78,61 +91,79 @@ fn scripts_are_read(rt: HostRuntime) -> Result<(), Fail> {
             8,
             "batch 0 3 40 1 0 -15;windows;",
         ),
-        (
-            "decouple\nchoose b2 39\nchoose b1 -999999999999999999\nschedule\nbounds\ndone\n",
-            73,
-            6,
-            "decouple;choose 4 39;choose 3 -999999999999999999;schedule;bounds;",
-        ),
-    ] {
-        let read = read_script(alloc, &net, text.as_bytes(), 14)?;
-        assert_eq!(rt; (read.used, read.lines), (used, lines), "{text}");
-        let commands = written(alloc, read.script.commands())?;
-        assert_eq!(rt; commands.as_str(), want, "{text}");
-    }
-    Ok(())
+    ];
+    are_read(&rt, rt.alloc(), texts.as_slice())
 }
 
 #[test]
-fn first_failures(rt: HostRuntime) -> Result<(), Fail> {
-    let alloc = rt.alloc();
-    let net = handover(&rt, alloc)?;
-    for (text, line, cause) in [
+fn a_script_ends_at_done(rt: HostRuntime) -> Result<(), Fail> {
+    let texts = [
+        ("done\n", 5, 1, ""),
+        ("done", 4, 1, ""),
+        ("bounds\r\ndone\r\n", 14, 2, "bounds;"),
+        ("bounds\ndone\nnonsense\n\u{1}", 12, 2, "bounds;"),
+        ("\n# a comment\n prove\tb1  z \ndone\n", 32, 4, "prove 3 0;"),
+    ];
+    are_read(&rt, rt.alloc(), texts.as_slice())
+}
+
+#[test]
+fn texts_are_refused(rt: HostRuntime) -> Result<(), Fail> {
+    let net = handover(rt.alloc())?;
+    let texts = [
         ("", 14, TextCause::NoDone),
         ("bounds\n\t# done\n", 16, TextCause::NoDone),
-        ("choose a1 0\n", 14, TextCause::BeforeDecouple),
-        ("schedule\n", 14, TextCause::BeforeDecouple),
-        ("decouple\ntighten z a1 5\n", 15, TextCause::AfterDecouple),
-        ("decouple\nbatch\n", 15, TextCause::AfterDecouple),
-        ("decouple\ndecouple\n", 15, TextCause::AfterDecouple),
-        ("batch\nclose\n", 15, TextCause::EmptyBatch),
-        ("batch\n# none\n\nclose\n", 17, TextCause::EmptyBatch),
         ("batch\n", 15, TextCause::BatchOpen),
         ("batch\ndone\n", 15, TextCause::BatchOpen),
-        ("prove z c\n", 14, TextCause::NameUnknown),
+        ("batch\nclose\n", 15, TextCause::EmptyBatch),
+        ("batch\n# none\n\nclose\n", 17, TextCause::EmptyBatch),
         ("bounds\u{1}\n", 14, TextCause::NotText),
         ("close\n", 14, TextCause::UnknownWord),
         ("arc z a1 5\n", 14, TextCause::UnknownWord),
         ("windows 1\n", 14, TextCause::FieldCount),
-        ("prove a1\n", 14, TextCause::FieldCount),
-        ("batch\narc z a1 5 6\n", 15, TextCause::FieldCount),
+        ("withdraw\n", 14, TextCause::FieldCount),
         ("tighten z a1 5.0\n", 14, TextCause::NumberBad),
+        ("withdraw 4294967296\n", 14, TextCause::NumberBad),
+        ("withdraw -1\n", 14, TextCause::NumberBad),
+        ("prove z c\n", 14, TextCause::NameUnknown),
         ("prove a1 a1\n", 14, TextCause::SamePoint),
         ("tighten z a1 1099511627777\n", 14, TextCause::BoundRange),
-        ("decouple\nchoose z 5\n", 15, TextCause::ReferencePoint),
-    ] {
-        assert!(rt; text.len() < 100);
-        let read = read_script(alloc, &net, text.as_bytes(), 14);
-        assert_eq!(rt; read.err(), Some(TextError::At { line, cause }), "{text}");
-    }
-    Ok(())
+    ];
+    are_refused(&rt, rt.alloc(), &net, texts.as_slice())
 }
 
 #[test]
-fn lines_with_two_failures(rt: HostRuntime) -> Result<(), Fail> {
-    let alloc = rt.alloc();
-    let net = handover(&rt, alloc)?;
-    for (text, line, cause) in [
+fn places_are_kept(rt: HostRuntime) -> Result<(), Fail> {
+    let net = handover(rt.alloc())?;
+    let texts = [
+        ("choose a1 0\n", 14, TextCause::BeforeDecouple),
+        ("execute\n", 14, TextCause::BeforeDecouple),
+        ("schedule\n", 14, TextCause::BeforeDecouple),
+        ("decouple\ntighten z a1 5\n", 15, TextCause::AfterDecouple),
+        ("decouple\nbatch\n", 15, TextCause::AfterDecouple),
+        ("decouple\nwithdraw 8\n", 15, TextCause::AfterDecouple),
+        ("decouple\ndecouple\n", 15, TextCause::AfterDecouple),
+        ("decouple\nadvance 1\n", 15, TextCause::BeforeExecute),
+        ("decouple\ndo a1\n", 15, TextCause::BeforeExecute),
+        (
+            "decouple\nexecute\nchoose a1 0\n",
+            16,
+            TextCause::AfterExecute,
+        ),
+        ("decouple\nexecute\nexecute\n", 16, TextCause::AfterExecute),
+        (
+            "decouple\nexecute\nwithdraw 8\n",
+            16,
+            TextCause::AfterDecouple,
+        ),
+    ];
+    are_refused(&rt, rt.alloc(), &net, texts.as_slice())
+}
+
+#[test]
+fn the_first_failure_is_named(rt: HostRuntime) -> Result<(), Fail> {
+    let net = handover(rt.alloc())?;
+    let texts = [
         ("batch\nbounds\u{1}\n", 15, TextCause::NotText),
         ("batch\nnonsense\n", 15, TextCause::BatchOpen),
         ("batch\nbounds 1\n", 15, TextCause::BatchOpen),
@@ -141,52 +172,57 @@ fn lines_with_two_failures(rt: HostRuntime) -> Result<(), Fail> {
         ("tighten c a1 five\n", 14, TextCause::NumberBad),
         ("tighten c c 5\n", 14, TextCause::NameUnknown),
         ("choose z 5\n", 14, TextCause::ReferencePoint),
+        ("do z\n", 14, TextCause::ReferencePoint),
         ("tighten a1 a1 -1099511627777\n", 14, TextCause::SamePoint),
         (
             "decouple\ntighten z a1 1099511627777\n",
             15,
             TextCause::BoundRange,
         ),
-    ] {
-        let read = read_script(alloc, &net, text.as_bytes(), 14);
-        assert_eq!(rt; read.err(), Some(TextError::At { line, cause }), "{text}");
-    }
-    Ok(())
+        ("decouple\nwithdraw -8\n", 15, TextCause::NumberBad),
+        ("do a1\n", 14, TextCause::BeforeDecouple),
+        ("advance 1\n", 14, TextCause::BeforeDecouple),
+    ];
+    are_refused(&rt, rt.alloc(), &net, texts.as_slice())
 }
 
-#[test]
-fn too_many_arcs(rt: HostRuntime) -> Result<(), Fail> {
-    let alloc = rt.alloc();
-    let mut net = handover(&rt, alloc)?;
-    // With this loop the network has two arcs fewer than it may have.
-    for bound in 0..65_527 {
+/// One act, whose points are `dig.s` and `dig.e`, and two arcs fewer than a network may have.
+fn nearly_full(rt: &impl Abort, alloc: Global) -> Result<Network, Fail> {
+    let mut net = Network::new(alloc, 100)?;
+    net.add_agent(alloc, b"ann".as_slice(), Lean::Early)?;
+    assert!(rt; net.agents() == 1);
+    net.add_act(alloc, AgentId(0), b"dig".as_slice(), 5, 8)?;
+    for bound in 0..65_532 {
         assert!(rt; 1 < net.points());
         net.add_arc(PointId(0), PointId(1), bound)?;
     }
-    for (text, line, cause) in [
+    Ok(net)
+}
+
+#[test]
+fn arcs_are_counted_to_the_limit(rt: HostRuntime) -> Result<(), Fail> {
+    let net = nearly_full(&rt, rt.alloc())?;
+    let texts = [
         (
-            "tighten z a1 5\nbatch\narc z a2 5\nclose\n",
+            "tighten z dig.s 5\nbatch\narc z dig.e 5\nclose\n",
             18,
             TextCause::NoDone,
         ),
         (
-            "tighten z a1 5\nbatch\narc z a2 5\narc z a2 5\n",
+            "tighten z dig.s 5\nbatch\narc z dig.e 5\narc z dig.e 5\n",
             17,
             TextCause::TooManyArcs,
         ),
         (
-            "batch\narc z a2 5\narc z a2 5\nclose\ntighten z a1 5\n",
+            "batch\narc z dig.e 5\narc z dig.e 5\nclose\ntighten z dig.s 5\n",
             18,
             TextCause::TooManyArcs,
         ),
         (
-            "batch\narc z a2 5\nclose\nbatch\narc z a2 5\nclose\nbatch\narc z a1 5\n",
+            "batch\narc z dig.e 5\nclose\nbatch\narc z dig.e 5\nclose\nbatch\narc z dig.s 5\n",
             21,
             TextCause::TooManyArcs,
         ),
-    ] {
-        let read = read_script(alloc, &net, text.as_bytes(), 14);
-        assert_eq!(rt; read.err(), Some(TextError::At { line, cause }), "{text}");
-    }
-    Ok(())
+    ];
+    are_refused(&rt, rt.alloc(), &net, texts.as_slice())
 }

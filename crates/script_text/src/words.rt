@@ -12,8 +12,12 @@ pub enum Word {
     Batch,
     Arc,
     Close,
+    Withdraw,
     Decouple,
     Choose,
+    Execute,
+    Advance,
+    Do,
     Schedule,
     Done,
 }
@@ -43,11 +47,23 @@ pub fn word_of(field: &[u8]) -> Option<Word>
     if field == b"close".as_slice() {
         return Some(Word::Close);
     }
+    if field == b"withdraw".as_slice() {
+        return Some(Word::Withdraw);
+    }
     if field == b"decouple".as_slice() {
         return Some(Word::Decouple);
     }
     if field == b"choose".as_slice() {
         return Some(Word::Choose);
+    }
+    if field == b"execute".as_slice() {
+        return Some(Word::Execute);
+    }
+    if field == b"advance".as_slice() {
+        return Some(Word::Advance);
+    }
+    if field == b"do".as_slice() {
+        return Some(Word::Do);
     }
     if field == b"schedule".as_slice() {
         return Some(Word::Schedule);
