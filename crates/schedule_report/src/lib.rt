@@ -10,6 +10,8 @@ mod mark;
 mod order;
 mod prove;
 mod repair;
+#[cfg(test)]
+mod tests;
 mod times;
 mod window;
 mod words;
