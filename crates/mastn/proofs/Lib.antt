@@ -1,5 +1,6 @@
-mod LawLemmas
-mod MeaningLemmas
-mod QuietLemmas
-mod ReportLemmas
+mod Digits
+mod Readings
+mod Scripts
+mod Valid
+mod Verified
 mod WordLemmas

@@ -3,15 +3,16 @@ use Rattle.std.specs.Prelude.{ℕ, ◌≤◌, ℤ, Bool, pos, List, [], ◌∷�
 use Rattle.std.specs.Str.{bytes_eq}
 use Rattle.net_text.specs.Numbers.{number_of}
 use Rattle.mastn.specs.declared.words.Job.{Job}
-use Rattle.mastn.specs.declared.words.Job.TheVariants.{Check, Certify, Verify, Gen}
+use Rattle.mastn.specs.declared.words.Job.TheVariants.{Check, Certify, Verify, Upgrade, Gen}
+use Rattle.mastn.specs.Limits.{greatest_number, greatest_size}
 
 -- the number of a word of 1 to 10 digits
 abbrev pub digits_of : List ℕ → Option ℤ
 digits_of word = if nat_lt 10 (length word) || nat_eq (length word) 0 || (slice_index word 0 == 45) then None else number_of word
 
--- a generated network's number is at most 2147483645, and its size from 1 to 32
+-- a generated network's number and size are within their limits
 abbrev pub are_within : ℤ → ℤ → Bool
-are_within number size = int_le (pos 0) number && int_le number (pos 2147483645) && int_le (pos 1) size && int_le size (pos 32)
+are_within number size = int_le (pos 0) number && int_le number (pos greatest_number) && int_le (pos 1) size && int_le size (pos greatest_size)
 
 abbrev pub gen_within : ℤ → ℤ → Option Job
 gen_within number size = if are_within number size then Some (Gen (unsigned_abs number) (unsigned_abs size)) else None
@@ -26,7 +27,8 @@ abbrev pub IsWithinLimits : Job → Type 0
 IsWithinLimits Check = Unit {0}
 IsWithinLimits Certify = Unit {0}
 IsWithinLimits Verify = Unit {0}
-IsWithinLimits (Gen number size) = (number ≤ 2147483645) × (1 ≤ size) × (size ≤ 32)
+IsWithinLimits Upgrade = Unit {0}
+IsWithinLimits (Gen number size) = (number ≤ greatest_number) × (1 ≤ size) × (size ≤ greatest_size)
 
 -- a lone word
 abbrev pub lone_job : List ℕ → Option Job
@@ -34,13 +36,14 @@ lone_job word =
     if bytes_eq word (codes "check") then Some Check
     else (if bytes_eq word (codes "certify") then Some Certify
     else (if bytes_eq word (codes "verify") then Some Verify
-    else None))
+    else (if bytes_eq word (codes "upgrade") then Some Upgrade
+    else None)))
 
 -- a word with a number and a size
 abbrev pub sized_job : List ℕ → List ℕ → List ℕ → Option Job
 sized_job word number size = if bytes_eq word (codes "gen") then gen_of (digits_of number) (digits_of size) else None
 
--- the table of words: none, or `check`; `certify`; `verify`; `gen NUMBER SIZE`
+-- the table of words: none, or `check`; `certify`; `verify`; `upgrade`; `gen NUMBER SIZE`
 abbrev pub job_of : List (List ℕ) → Option Job
 job_of [] = Some Check
 job_of (word ∷ []) = lone_job word

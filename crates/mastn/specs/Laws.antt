@@ -1,18 +1,69 @@
--- Laws of runs: ValidInputsAreReported.
-use Rattle.std.specs.Prelude.{◌≡◌, ℕ, ◌≤◌, ◌⊎◌, List, length, Option, Some, Ok}
+-- Laws of runs: ValidInputsAreReported, GeneratedIsReported, CertifiedIsVerified.
+use Rattle.std.specs.Prelude.{◌≡◌, ℕ, ◌+◌, ◌≤◌, ◌⊎◌, ◌++◌, List, length, take, drop, Some, Ok}
 use Rattle.stn_io.specs.Causes.{Rose}
+use Rattle.stn_io.specs.States.{SourceState, SinkState}
+use Rattle.stn_model.specs.Net.{point_count}
 use Rattle.net_text.specs.declared.read.NetRead.{NetRead}
+use Rattle.net_text.specs.Lines.{EndsInFeed}
 use Rattle.net_text.specs.Networks.{text_of}
+use Rattle.cert_check.specs.declared.verdict.Verdict.{Verdict}
+use Rattle.cert_check.specs.declared.verdict.Verdict.TheVariants as verdict
+use Rattle.cert_check.specs.Certificates.{verdict_of}
+use Rattle.mastn.specs.declared.answer.Outcome.{Outcome}
+use Rattle.mastn.specs.declared.question.Question.{Question}
+use Rattle.mastn.specs.declared.question.Question.TheVariants.{Check, Certify, Verify, Upgrade}
 use Rattle.mastn.specs.declared.status.Status.{Status}
 use Rattle.mastn.specs.declared.status.Status.TheVariants.{Done, Inconsistent, OutOfMemory}
-use Rattle.mastn.specs.Checks.{CheckSays}
-use Rattle.mastn.specs.Runs.{Runs}
+use Rattle.mastn.specs.Gens.{Generates}
+use Rattle.mastn.specs.Limits.{longest_input, most_certified}
+use Rattle.mastn.specs.Questions.{says_of}
+use Rattle.mastn.specs.Runs.{Runs, RunsAlone}
 
--- where the source tells a network text within the limit, and neither count of faults rose, `check` reports, or memory ran out
+-- the certificate shows something
+abbrev pub IsShown : Verdict → Type 0
+IsShown verdict.Consistent = Unit {0}
+IsShown verdict.Inconsistent = Unit {0}
+IsShown (verdict.No number cause) = ⊥
+
+-- the network that an input begins with, and what follows its text, are such as the job asks for
+abbrev pub Suits : Question → List ℕ → NetRead → Type 0
+Suits Check bytes read = Unit {0}
+Suits Certify bytes read = point_count read.net ≤ most_certified
+Suits Verify bytes read = (point_count read.net ≤ most_certified) × IsShown (verdict_of read.net (read.lines + 1) (drop read.used bytes))
+Suits Upgrade bytes read = Unit {0}
+
+-- a run on a valid input: the source told it, it is within the limit and such as the job asks for, and neither count of faults rose
+pub record IsValidRun (question : Question) (source left : SourceState) (sink taken : SinkState) : Type 0 where
+  pub bytes : List ℕ
+  pub told : source.left ≡ Some bytes
+  pub few : length bytes ≤ longest_input
+  pub read : NetRead
+  pub begins : text_of bytes ≡ Ok read
+  pub suits : Suits question bytes read
+  pub reads : Rose source.faults left.faults → ⊥
+  pub writes : Rose sink.faults taken.faults → ⊥
+
+-- the report was written whole, or memory ran out
+abbrev pub IsReported : Status → Type 0
+IsReported answer = (answer ≡ Done) ⊎ ((answer ≡ Inconsistent) ⊎ (answer ≡ OutOfMemory))
+
+-- each job that reads reports each valid input
 abbrev pub ValidInputsAreReported : Type 0
 ValidInputsAreReported =
-    (bytes : List ℕ) (read : NetRead) (left_after : Option (List ℕ)) (reads reads_after : ℕ) (taken taken_after : Option (List ℕ)) (writes writes_after : ℕ) (answer : Status)
-    → Runs CheckSays (Some bytes) left_after reads reads_after taken taken_after writes writes_after answer
-    → length bytes ≤ 16777216 → text_of bytes ≡ Ok read
-    → (Rose reads reads_after → ⊥) → (Rose writes writes_after → ⊥)
-    → (answer ≡ Done) ⊎ ((answer ≡ Inconsistent) ⊎ (answer ≡ OutOfMemory))
+    (question : Question) (source left : SourceState) (sink taken : SinkState) (answer : Status)
+    → Runs (says_of question) source left sink taken answer → IsValidRun question source left sink taken → IsReported answer
+
+-- `gen` writes each network where no write fails
+abbrev pub GeneratedIsReported : Type 0
+GeneratedIsReported =
+    (number size : ℕ) (sink taken : SinkState) (answer : Status)
+    → RunsAlone (Generates number size) sink taken answer → (Rose sink.faults taken.faults → ⊥) → (answer ≡ Done) ⊎ (answer ≡ OutOfMemory)
+
+-- what `certify` says of a text, `verify` says of that text with the certificate behind it: `Done` is `verified consistent`, `Inconsistent`
+-- is `verified inconsistent`, and no line is false. The text ends in a line feed, so that the certificate begins a line
+abbrev pub CertifiedIsVerified : Type 0
+CertifiedIsVerified =
+    (bytes certificate text : List ℕ) (read : NetRead) (certified verified : Outcome)
+    → text_of bytes ≡ Ok read → EndsInFeed (take read.used bytes)
+    → says_of Certify bytes certified certificate → says_of Verify (take read.used bytes ++ certificate) verified text
+    → verified ≡ certified

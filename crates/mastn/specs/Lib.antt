@@ -1,9 +1,11 @@
+pub mod Limits
 pub mod Statuses
 pub mod Jobs
 pub mod Reports
 pub mod Checks
+pub mod Certificates
+pub mod Upgrades
+pub mod Gens
+pub mod Questions
 pub mod Runs
 pub mod Laws
-pub mod Gens
-pub mod Certifies
-pub mod Questions

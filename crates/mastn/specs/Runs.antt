@@ -1,53 +1,73 @@
--- What a run answers, what it takes of its source, and what its sink takes.
-use Rattle.std.specs.Prelude.{◌≡◌, ℕ, ◌<◌, ◌≤◌, ◌⊎◌, List, [], length, drop, codes, Option, Some, None, IfSome}
+-- What a run answers, what it takes of its source, and what its sink takes: Writes, ReadsWhole, Means, Runs, MeansAlone, RunsAlone.
+use Rattle.std.specs.Prelude.{◌≡◌, ℕ, ◌+◌, ◌≤◌, ◌⊎◌, List, [], length, codes, Result, Ok, Err, Option, Some, IfSome}
 use Rattle.std.specs.Io.KnownBytes.{Appends}
 use Rattle.stn_io.specs.Causes.{Rose}
-use Rattle.stn_io.specs.Bytes.{Loses, TakesFront}
+use Rattle.stn_io.specs.Bytes.{Loses, LosesAtMost, TakesFront}
+use Rattle.stn_io.specs.States.{SourceState, SinkState}
 use Rattle.stn_io.specs.declared.whole.ReadRefusal.{ReadRefusal}
-use Rattle.stn_io.specs.declared.whole.ReadRefusal.TheVariants as refusal
+use Rattle.stn_io.specs.declared.whole.ReadRefusal.TheVariants.{ReadFault, TooLong, OutOfMemory}
+use Rattle.mastn.specs.declared.answer.Outcome.{Outcome}
 use Rattle.mastn.specs.declared.status.Status.{Status}
-use Rattle.mastn.specs.declared.status.Status.TheVariants.{ReadFault, WriteFault, OutOfMemory, InputTooLong}
+use Rattle.mastn.specs.declared.status.Status.TheVariants.{WriteFault}
+use Rattle.mastn.specs.Limits.{longest_input}
 use Rattle.mastn.specs.Reports.{refusal_line}
+use Rattle.mastn.specs.Statuses.{meant_status}
 
--- the whole text was taken and the answer is the one that was meant, or a write failed: the sink's count of faults rose, and a front of the text was taken
-abbrev pub Writes : Status → List ℕ → ℕ → ℕ → Option (List ℕ) → Option (List ℕ) → Status → Type 0
-Writes meant text before now old new answer =
-    ((answer ≡ meant) × Appends old new text) ⊎ ((answer ≡ WriteFault) × Rose before now × TakesFront old new text)
+-- the whole text was taken, and no write failed
+pub record WritesWhole (text : List ℕ) (old new : SinkState) : Type 0 where
+  pub taken : Appends old.taken new.taken text
+  pub kept : new.faults ≡ old.faults
 
--- these are all bytes that the source had, and they are within the limit; none is left
-pub record ReadsWhole (old new : Option (List ℕ)) (bytes : List ℕ) : Type 0 where
-  pub few : length bytes ≤ 16777216
-  pub told : IfSome old (λ xs. bytes ≡ xs)
-  pub ended : IfSome old (λ xs. new ≡ Some [])
+-- a write failed, so the count of faults rose; a prefix of the text was taken, and not all of it
+pub record WritesPrefix (text : List ℕ) (old new : SinkState) : Type 0 where
+  pub taken : TakesFront old.taken new.taken text
+  pub rose : Rose old.faults new.faults
 
--- the answer that a job means to give, and its text, where it says for the bytes of its input what its last argument tells: a failed read only where the source's count of faults rose; a long input exactly where one byte more than the limit was taken; want of memory is free
-abbrev pub Means : (List ℕ → Status → List ℕ → Type 0) → Option (List ℕ) → Option (List ℕ) → ℕ → ℕ → Status → List ℕ → Type 0
-Means says old new before now ReadFault text = Rose before now × (text ≡ refusal_line (codes "ReadFault"))
-Means says old new before now InputTooLong text = Loses old new 16777217 × (text ≡ refusal_line (codes "InputTooLong"))
-Means says old new before now OutOfMemory text = text ≡ refusal_line (codes "OutOfMemory")
-Means says old new before now status text = (bytes : List ℕ) × ReadsWhole old new bytes × says bytes status text
+-- the answer is the one that was meant, or a write failed
+abbrev pub Writes : Status → List ℕ → SinkState → SinkState → Status → Type 0
+Writes meant text old new answer = ((answer ≡ meant) × WritesWhole text old new) ⊎ ((answer ≡ WriteFault) × WritesPrefix text old new)
 
--- a job that reads all of its input: the answer that it means to give, with its text, and what became of that text
-pub record Runs (says : List ℕ → Status → List ℕ → Type 0) (left left_after : Option (List ℕ)) (reads reads_after : ℕ) (taken taken_after : Option (List ℕ)) (writes writes_after : ℕ) (answer : Status) : Type 0 where
-  pub meant : Status
-  pub text : List ℕ
-  pub means : Means says left left_after reads reads_after meant text
-  pub writing : Writes meant text writes writes_after taken taken_after answer
+-- these are all bytes that the source had, and they are within the limit; none is left, and no read failed
+pub record ReadsWhole (old new : SourceState) (bytes : List ℕ) : Type 0 where
+  pub few : length bytes ≤ longest_input
+  pub told : IfSome old.left (λ xs. bytes ≡ xs)
+  pub ended : IfSome old.left (λ xs. new.left ≡ Some [])
+  pub kept : new.faults ≡ old.faults
 
--- the status and the word of an input that was not read whole, or for which memory ran out
-abbrev pub refusal_status : ReadRefusal → Status
-refusal_status refusal.ReadFault = ReadFault
-refusal_status refusal.TooLong = InputTooLong
-refusal_status refusal.OutOfMemory = OutOfMemory
-
+-- the word of an input that was not read whole, or for which memory ran out
 abbrev pub refusal_word : ReadRefusal → List ℕ
-refusal_word refusal.ReadFault = codes "ReadFault"
-refusal_word refusal.TooLong = codes "InputTooLong"
-refusal_word refusal.OutOfMemory = codes "OutOfMemory"
+refusal_word ReadFault = codes "ReadFault"
+refusal_word TooLong = codes "InputTooLong"
+refusal_word OutOfMemory = codes "OutOfMemory"
 
--- a job that reads nothing: the answer that it means to give, with its text, and what became of that text
-pub record RunsAlone (says : Status → List ℕ → Type 0) (taken taken_after : Option (List ℕ)) (writes writes_after : ℕ) (answer : Status) : Type 0 where
-  pub meant : Status
+-- an answer without a report, by what became of the source: a failed read only where the count of faults rose, and no more than the limit
+-- was taken then; a long input exactly where one byte more than the limit was taken; want of memory is free
+abbrev pub Refuses : ReadRefusal → SourceState → SourceState → Type 0
+Refuses ReadFault old new = LosesAtMost old.left new.left longest_input × Rose old.faults new.faults
+Refuses TooLong old new = Loses old.left new.left (longest_input + 1) × (new.faults ≡ old.faults)
+Refuses OutOfMemory old new = LosesAtMost old.left new.left longest_input × (new.faults ≡ old.faults)
+
+-- what a job that reads means to answer, and its text, where it says for the bytes of its input what the first argument tells
+abbrev pub Means : (List ℕ → Outcome → List ℕ → Type 0) → SourceState → SourceState → Result Outcome ReadRefusal → List ℕ → Type 0
+Means says old new (Ok outcome) text = (bytes : List ℕ) × ReadsWhole old new bytes × says bytes outcome text
+Means says old new (Err refusal) text = Refuses refusal old new × (text ≡ refusal_line (refusal_word refusal))
+
+-- a job that reads all of its input: what it means to answer, with the text, and what became of that text
+pub record Runs (says : List ℕ → Outcome → List ℕ → Type 0) (source left : SourceState) (sink taken : SinkState) (answer : Status) : Type 0 where
+  pub meant : Result Outcome ReadRefusal
   pub text : List ℕ
-  pub means : says meant text
-  pub writing : Writes meant text writes writes_after taken taken_after answer
+  pub means : Means says source left meant text
+  pub writes : Writes (meant_status meant) text sink taken answer
+
+-- what a job that reads nothing means to answer, and its text; want of memory is free
+abbrev pub MeansAlone : (Outcome → List ℕ → Type 0) → Result Outcome ReadRefusal → List ℕ → Type 0
+MeansAlone says (Ok outcome) text = says outcome text
+MeansAlone says (Err OutOfMemory) text = text ≡ refusal_line (refusal_word OutOfMemory)
+MeansAlone says (Err refusal) text = ⊥
+
+-- a job that reads nothing: what it means to answer, with the text, and what became of that text
+pub record RunsAlone (says : Outcome → List ℕ → Type 0) (sink taken : SinkState) (answer : Status) : Type 0 where
+  pub meant : Result Outcome ReadRefusal
+  pub text : List ℕ
+  pub means : MeansAlone says meant text
+  pub writes : Writes (meant_status meant) text sink taken answer

@@ -1,56 +1,61 @@
 //! Answers before they are written.
-ghost use Rattle.std.specs.Prelude.{◌≡◌, ◌++◌, ◌∷◌, [], OnOk, IfOk};
-ghost use Rattle.net_text.specs.Causes.{cause_word};
-ghost use Rattle.net_text.specs.Plain.{line};
-ghost use Rattle.mastn.specs.Reports.{error_line};
+ghost use Rattle.std.specs.Prelude.{◌≡◌, [], IfOk};
+ghost use Rattle.schedule_report.specs.Lines.{error_line};
+ghost use Rattle.mastn.specs.Statuses.{status_of};
 
 use crate::status::Status;
-use itoa::Buffer;
-use net_text::TextCause;
-use net_text::write::add_line;
+use schedule_report::error_line;
 use std::alloc::Global;
 use stn_model::OutOfMemory;
 
-/// A status with the whole text that goes with it.
+/// What a job says of its input. A failing read or write, a long input and want of memory are no part of it.
+#[derive(Clone, Copy, Debug, PartialEq, Eq)]
+pub enum Outcome {
+    /// The report is whole.
+    Done,
+    /// The report is whole, and no schedule satisfies the network.
+    Inconsistent,
+    /// The input does not begin with a network.
+    NetBad,
+    /// A line of the certificate is false.
+    NotProved,
+    /// The network has more points than a certificate may have.
+    TooLarge,
+}
+
+impl Outcome {
+    /// The status of a run whose text was written whole.
+    pub fn status(self) -> Status
+        ensures { result ≡ status_of self }
+    {
+        match self {
+            Outcome::Done => Status::Done,
+            Outcome::Inconsistent => Status::Inconsistent,
+            Outcome::NetBad => Status::NetBad,
+            Outcome::NotProved => Status::NotProved,
+            Outcome::TooLarge => Status::TooLargeToCertify,
+        }
+    }
+}
+
+/// An outcome with the whole text that goes with it.
 #[derive(Drop)]
 pub struct Answer {
-    pub status: Status,
+    pub outcome: Outcome,
     pub text: Vec<u8>,
 }
 
-/// The answer for an input that does not begin with a network.
-pub fn bad_network(alloc: Global, line: u32, cause: TextCause) -> Result<Answer, OutOfMemory>
-    ensures status { IfOk result (λ a. a.status ≡ Status.NetBad) }
-    ensures text { IfOk result (λ a. a.text.items ≡ error_line line (cause_word cause)) }
-{
-    let mut text = Vec::new(alloc);
-    add_error(&mut text, line, cause)?;
-    Ok(Answer {
-        status: Status::NetBad,
-        text,
-    })
-}
-
-/// Appends the error line of a text.
-fn add_error(out: &mut Vec<u8>, line: u32, cause: TextCause) -> Result<(), OutOfMemory>
-    ensures { OnOk result (out.new.items ≡ out.old.items ++ error_line line (cause_word cause)) }
-{
-    let mut buffer = Buffer::new();
-    let number = buffer.format(line);
-    add_line(out, b"error", &[number.as_bytes(), cause.word()])
-}
-
-/// An answer of one line without values.
-pub fn line_alone(
+/// The answer of one error line without values. The line is that of the input, or 0.
+pub fn refusal(
     alloc: Global,
-    status: Status,
-    word: &[u8],
-    field: &[u8],
+    outcome: Outcome,
+    line: u32,
+    cause: &[u8],
 ) -> Result<Answer, OutOfMemory>
-    ensures status { IfOk result (λ a. a.status ≡ status) }
-    ensures text { IfOk result (λ a. a.text.items ≡ line word.now (field.now ∷ [])) }
+    ensures outcome { IfOk result (λ a. a.outcome ≡ outcome) }
+    ensures text { IfOk result (λ a. a.text.items ≡ error_line line cause.now []) }
 {
     let mut text = Vec::new(alloc);
-    add_line(&mut text, word, &[field])?;
-    Ok(Answer { status, text })
+    error_line(line, cause, &[], &mut text)?;
+    Ok(Answer { outcome, text })
 }

@@ -1,143 +1,105 @@
 //! The answers of `certify` and `verify`.
-ghost use Rattle.std.specs.Prelude.{◌≡◌, ◌+◌, ◌-◌, ◌<◌, ◌≤◌, ◌^◌, length, drop, IfOk};
+ghost use Rattle.std.specs.Prelude.{◌≡◌, ◌+◌, ◌<◌, ◌≤◌, ◌^◌, length, IfOk};
 ghost use Rattle.stn_model.specs.Net.{point_count};
-ghost use Rattle.mastn.specs.Certifies.{CertifySays, VerifySays, SaysCertificate, SaysVerdict, SaysChecked, SaysTooLarge, IsVerdictOn};
+ghost use Rattle.mastn.specs.Certificates.{Certifies, Verifies, SaysCertificate, SaysVerdict, SaysChecked, SaysTooLarge, IsVerdictOn};
+ghost use Rattle.mastn.specs.Limits.{most_certified};
 
-use crate::answer::{Answer, bad_network, line_alone};
-use crate::status::Status;
+use crate::answer::{Answer, Outcome, refusal};
+use crate::limits::MOST_CERTIFIED;
 use cert_check::{Verdict, add_error, check_certificate};
 use cert_print::print_certificate;
 use net_text::write::add_line;
-use net_text::{TextError, read_net};
 use plain_solve::{Plain, plain_solve};
 use std::alloc::Global;
 use stn_model::{Network, OutOfMemory};
 
-/// The greatest number of points of a certificate, with the reference point.
-pub const MOST_POINTS: u32 = 256;
-
-/// What `certify` answers for an input.
-pub fn answer_certify(alloc: Global, bytes: &[u8]) -> Result<Answer, OutOfMemory>
-    requires { length bytes.now ≤ 16777216 }
-    ensures { IfOk result (λ a. CertifySays bytes.now a.status a.text.items) }
+/// A certificate of a network's verdict.
+pub fn certify(alloc: Global, net: &Network) -> Result<Answer, OutOfMemory>
+    ensures { IfOk result (λ a. Certifies net.now a.outcome a.text.items) }
 {
-    match read_net(alloc, bytes) {
-        Ok(read) => {
-            if read.net.points() > MOST_POINTS {
-                let answer = too_large(alloc)?;
-                return Ok(answer);
-            }
-            let answer = certificate_of(alloc, &read.net)?;
-            Ok(answer)
-        }
-        Err(TextError::At { line, cause }) => {
-            let answer = bad_network(alloc, line, cause)?;
-            Ok(answer)
-        }
-        Err(TextError::OutOfMemory) => Err(OutOfMemory),
+    if net.points() > MOST_CERTIFIED {
+        return too_large(alloc);
     }
+    certificate_of(alloc, net)
 }
 
-/// The certificate of a network, with the status of its verdict.
+/// The certificate of a network, with the outcome of its verdict.
 fn certificate_of(alloc: Global, net: &Network) -> Result<Answer, OutOfMemory>
-    ensures { IfOk result (λ a. SaysCertificate net.now a.status a.text.items) }
+    ensures { IfOk result (λ a. SaysCertificate net.now a.outcome a.text.items) }
 {
-    let status = verdict_on(alloc, net)?;
+    let outcome = verdict_on(alloc, net)?;
     let mut text = Vec::new(alloc);
     print_certificate(alloc, net, &mut text)?;
-    Ok(Answer { status, text })
+    Ok(Answer { outcome, text })
 }
 
-/// The status of a network's verdict.
-fn verdict_on(alloc: Global, net: &Network) -> Result<Status, OutOfMemory>
+/// The outcome of a network's verdict.
+fn verdict_on(alloc: Global, net: &Network) -> Result<Outcome, OutOfMemory>
     ensures { IfOk result (IsVerdictOn net.now) }
 {
     match plain_solve(alloc, net)? {
-        Plain::Consistent(_) => Ok(Status::Done),
-        Plain::Inconsistent(_) => Ok(Status::Inconsistent),
+        Plain::Consistent(_) => Ok(Outcome::Done),
+        Plain::Inconsistent(_) => Ok(Outcome::Inconsistent),
     }
 }
 
 /// The answer for a network with too many points for a certificate.
 fn too_large(alloc: Global) -> Result<Answer, OutOfMemory>
-    ensures { IfOk result (λ a. SaysTooLarge a.status a.text.items) }
+    ensures { IfOk result (λ a. SaysTooLarge a.outcome a.text.items) }
 {
-    let mut text = Vec::new(alloc);
-    add_line(&mut text, b"error", &[b"0", b"TooLargeToCertify"])?;
-    Ok(Answer {
-        status: Status::TooLargeToCertify,
-        text,
-    })
+    refusal(alloc, Outcome::TooLarge, 0, b"TooLargeToCertify")
 }
 
-/// What `verify` answers for an input.
-pub fn answer_verify(alloc: Global, bytes: &[u8]) -> Result<Answer, OutOfMemory>
-    requires { length bytes.now ≤ 16777216 }
-    ensures { IfOk result (λ a. VerifySays bytes.now a.status a.text.items) }
+/// What a certificate of a network shows. Its first line has the number `first_line`.
+pub fn verify(
+    alloc: Global,
+    net: &Network,
+    certificate: &[u8],
+    first_line: u32,
+) -> Result<Answer, OutOfMemory>
+    requires few_lines { length certificate.now + first_line < 2 ^ 32 }
+    ensures { IfOk result (λ a. Verifies net.now first_line certificate.now a.outcome a.text.items) }
 {
-    match read_net(alloc, bytes) {
-        Ok(read) => {
-            if read.net.points() > MOST_POINTS {
-                let answer = too_large(alloc)?;
-                return Ok(answer);
-            }
-            let rest = after(bytes, read.used);
-            let answer = checked(alloc, &read.net, rest, read.lines + 1)?;
-            Ok(answer)
-        }
-        Err(TextError::At { line, cause }) => {
-            let answer = bad_network(alloc, line, cause)?;
-            Ok(answer)
-        }
-        Err(TextError::OutOfMemory) => Err(OutOfMemory),
+    if net.points() > MOST_CERTIFIED {
+        return too_large(alloc);
     }
+    checked(alloc, net, certificate, first_line)
 }
 
-/// What stands after that many bytes.
-fn after(bytes: &[u8], used: usize) -> &[u8]
-    requires { used ≤ length bytes.now }
-    ensures rest { result.now ≡ drop used bytes.now }
-    ensures size { length result.now ≤ length bytes.now - used }
-{
-    &bytes[used..]
-}
-
-/// The answer for a certificate of a network.
+/// What a certificate of a network within the limit shows.
 fn checked(
     alloc: Global,
     net: &Network,
-    bytes: &[u8],
+    certificate: &[u8],
     first_line: u32,
 ) -> Result<Answer, OutOfMemory>
-    requires few_points { point_count net.now ≤ 256 }
-    requires few_lines { length bytes.now + first_line < 2 ^ 32 }
-    ensures { IfOk result (λ a. SaysChecked net.now first_line bytes.now a.status a.text.items) }
+    requires few_points { point_count net.now ≤ most_certified }
+    requires few_lines { length certificate.now + first_line < 2 ^ 32 }
+    ensures { IfOk result (λ a. SaysChecked net.now first_line certificate.now a.outcome a.text.items) }
 {
-    let verdict = check_certificate(alloc, net, bytes, first_line)?;
+    let verdict = check_certificate(alloc, net, certificate, first_line)?;
     let answer = answer_of(alloc, verdict)?;
     Ok(answer)
 }
 
 /// The answer for a verdict.
 fn answer_of(alloc: Global, verdict: Verdict) -> Result<Answer, OutOfMemory>
-    ensures { IfOk result (λ a. SaysVerdict verdict a.status a.text.items) }
+    ensures { IfOk result (λ a. SaysVerdict verdict a.outcome a.text.items) }
 {
-    match verdict {
+    let mut text = Vec::new(alloc);
+    let outcome = match verdict {
         Verdict::Consistent => {
-            let answer = line_alone(alloc, Status::Done, b"verified", b"consistent")?;
-            Ok(answer)
+            add_line(&mut text, b"verified", &[b"consistent"])?;
+            Outcome::Done
         }
         Verdict::Inconsistent => {
-            let answer = line_alone(alloc, Status::Inconsistent, b"verified", b"inconsistent")?;
-            Ok(answer)
+            add_line(&mut text, b"verified", &[b"inconsistent"])?;
+            Outcome::Inconsistent
         }
         Verdict::No { line, cause } => {
-            let mut text = Vec::new(alloc);
             add_error(&mut text, line, cause)?;
-            Ok(Answer {
-                status: Status::NotProved,
-                text,
-            })
+            Outcome::NotProved
         }
-    }
+    };
+    Ok(Answer { outcome, text })
 }

@@ -1,52 +1,67 @@
 //! The answer of `check`.
-ghost use Rattle.std.specs.Prelude.{◌≤◌, length, IfOk};
-ghost use Rattle.mastn.specs.Checks.{CheckSays, SaysOf};
+ghost use Rattle.std.specs.Prelude.{◌≡◌, IfOk};
+ghost use Rattle.stn_model.specs.Net.{arcs_of};
+ghost use Rattle.stn_model.specs.Walks as walks;
+ghost use Rattle.plain_solve.specs.Answers.{IsEarliest};
+ghost use Rattle.mastn.specs.Checks.{Checks};
 
-use crate::answer::{Answer, bad_network};
-use crate::report::{add_consistent, add_inconsistent};
-use crate::status::Status;
-use net_text::{TextError, read_net};
+use crate::answer::{Answer, Outcome};
 use plain_solve::{Plain, plain_solve};
+use schedule_report::{cycle_part, times_part, verdict};
 use std::alloc::Global;
-use stn_model::{Network, OutOfMemory};
+use stn_model::{Network, OutOfMemory, Schedule};
+use stn_walk::{Walk, weight};
 
-/// What `check` answers for an input.
-pub fn answer_check(alloc: Global, bytes: &[u8]) -> Result<Answer, OutOfMemory>
-    requires { length bytes.now ≤ 16777216 }
-    ensures { IfOk result (λ a. CheckSays bytes.now a.status a.text.items) }
+/// The verdict on a network, with its earliest schedule or a negative cycle.
+pub fn check(alloc: Global, net: &Network) -> Result<Answer, OutOfMemory>
+    ensures { IfOk result (λ a. Checks net.now a.outcome a.text.items) }
 {
-    match read_net(alloc, bytes) {
-        Ok(read) => {
-            let answer = answer_of(alloc, &read.net)?;
-            Ok(answer)
-        }
-        Err(TextError::At { line, cause }) => {
-            let answer = bad_network(alloc, line, cause)?;
-            Ok(answer)
-        }
-        Err(TextError::OutOfMemory) => Err(OutOfMemory),
+    match plain_solve(alloc, net)? {
+        Plain::Consistent(schedule) => consistent(alloc, net, &schedule),
+        Plain::Inconsistent(cycle) => inconsistent(alloc, net, &cycle),
     }
 }
 
-/// The verdict on a network, with its report.
-fn answer_of(alloc: Global, net: &Network) -> Result<Answer, OutOfMemory>
-    ensures { IfOk result (λ a. SaysOf net.now a.status a.text.items) }
+/// The answer for a consistent network, by its earliest schedule.
+fn consistent(alloc: Global, net: &Network, schedule: &Schedule) -> Result<Answer, OutOfMemory>
+    requires { IsEarliest net.now schedule.now }
+    ensures { IfOk result (λ a. Checks net.now a.outcome a.text.items) }
 {
     let mut text = Vec::new(alloc);
-    match plain_solve(alloc, net)? {
-        Plain::Consistent(schedule) => {
-            add_consistent(&mut text, net, &schedule)?;
-            Ok(Answer {
-                status: Status::Done,
-                text,
-            })
-        }
-        Plain::Inconsistent(cycle) => {
-            add_inconsistent(&mut text, net, &cycle)?;
-            Ok(Answer {
-                status: Status::Inconsistent,
-                text,
-            })
-        }
-    }
+    verdict(true, &mut text)?;
+    times_part(net, schedule, &mut text)?;
+    Ok(Answer {
+        outcome: Outcome::Done,
+        text,
+    })
+}
+
+/// The answer for an inconsistent network, by one of its negative cycles.
+fn inconsistent(alloc: Global, net: &Network, cycle: &Walk) -> Result<Answer, OutOfMemory>
+    requires cycle { walks.IsNegativeCycle (arcs_of net.now) cycle.now }
+    requires normal { walks.IsNormal cycle.now }
+    ensures { IfOk result (λ a. Checks net.now a.outcome a.text.items) }
+{
+    let mut text = Vec::new(alloc);
+    verdict(false, &mut text)?;
+    cycle_part(net, cycle, sum_of(net, cycle), &mut text)?;
+    Ok(Answer {
+        outcome: Outcome::Inconsistent,
+        text,
+    })
+}
+
+/// The sum of a cycle's bounds.
+fn sum_of(net: &Network, cycle: &Walk) -> i128
+    requires { walks.IsNegativeCycle (arcs_of net.now) cycle.now }
+    ensures { result ≡ walks.weight (arcs_of net.now) cycle.now }
+{
+    let Some(first) = cycle.arcs().first() else {
+        unreachable!()
+    };
+    let start = net.arc(*first).from;
+    let Some(sum) = weight(net, cycle, start, start) else {
+        unreachable!()
+    };
+    sum
 }

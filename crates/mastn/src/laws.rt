@@ -1,8 +1,23 @@
 //! Laws of runs, which no code keeps.
-ghost use Rattle.mastn.specs.Laws.{ValidInputsAreReported};
+ghost use Rattle.mastn.specs.Laws.{ValidInputsAreReported, GeneratedIsReported, CertifiedIsVerified};
 
-/// A network text within the limit, with no fault, is reported, unless memory runs out.
-#[tactic(auto, using(crate::proofs::LawLemmas::valid_inputs))]
+/// Each job that reads reports each valid input, where no read and no write fails, unless memory runs out.
+///
+/// An input is valid where it is within the limit and begins with a network text: for `certify` one of at most 256 points, and for
+/// `verify` such a text and a certificate without a false line.
+#[tactic(auto, using(crate::proofs::Valid::valid_inputs))]
 pub fn valid_inputs_are_reported()
     ensures { ValidInputsAreReported }
+{}
+
+/// `gen` writes its network, where no write fails, unless memory runs out.
+#[tactic(auto, using(crate::proofs::Valid::generated))]
+pub fn generated_is_reported()
+    ensures { GeneratedIsReported }
+{}
+
+/// What `certify` writes for a text, `verify` accepts behind that text, with the same status.
+#[tactic(auto, using(crate::proofs::Verified::certified_is_verified))]
+pub fn certified_is_verified()
+    ensures { CertifiedIsVerified }
 {}

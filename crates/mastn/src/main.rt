@@ -6,45 +6,57 @@ mod certify;
 mod check;
 mod generate;
 mod laws;
+mod limits;
 mod question;
-mod report;
 mod run;
 mod status;
 #[cfg(test)]
 mod tests;
+mod upgrade;
 mod words;
 
-use crate::run::run;
-use crate::status::Status;
+use crate::run::{refuse, refuse_words, run};
 use std::alloc::Global;
 use std::env;
 use std::env::Env;
+use std::io::ErrorKind;
 use std::process::ExitCode;
-use stn_io::{StdSink, StdSource};
+use stn_io::{ReadRefusal, StdSink, StdSource};
 
-/// The words after the program's name, or None where there is no memory for them.
-fn words_of(rt: &(impl Env + AllocGlobal)) -> Option<Vec<Vec<u8>>> {
-    let mut words = Vec::new(rt.alloc());
-    let Ok(args) = env::args(rt) else {
-        return None;
+/// Why the words after the program's name are not there.
+enum NoWords {
+    /// A word is not UTF-8, so the words are no job.
+    NotUtf8,
+    /// There is no memory for them.
+    OutOfMemory,
+}
+
+/// The words after the program's name.
+fn words_of(rt: &(impl Env + AllocGlobal)) -> Result<Vec<Vec<u8>>, NoWords> {
+    let args = match env::args(rt) {
+        Ok(args) => args,
+        Err(error) if error.kind() == ErrorKind::OutOfMemory => return Err(NoWords::OutOfMemory),
+        Err(_) => return Err(NoWords::NotUtf8),
     };
+    let mut words = Vec::new(rt.alloc());
     for arg in args.skip(1) {
         let Ok(word) = Vec::from_slice(rt.alloc(), arg.as_bytes()) else {
-            return None;
+            return Err(NoWords::OutOfMemory);
         };
         let Ok(()) = words.push(word) else {
-            return None;
+            return Err(NoWords::OutOfMemory);
         };
     }
-    Some(words)
+    Ok(words)
 }
 
 fn main(rt: HostRuntime) -> ExitCode {
-    let Some(words) = words_of(&rt) else {
-        return ExitCode::from(Status::OutOfMemory.number());
-    };
     let mut source = StdSource::new(rt.stdin());
     let mut sink = StdSink::new(rt.stdout());
-    let status = run(rt.alloc(), words.as_slice(), &mut source, &mut sink);
+    let status = match words_of(&rt) {
+        Ok(words) => run(rt.alloc(), words.as_slice(), &mut source, &mut sink),
+        Err(NoWords::NotUtf8) => refuse_words(&mut sink),
+        Err(NoWords::OutOfMemory) => refuse(&mut sink, ReadRefusal::OutOfMemory),
+    };
     ExitCode::from(status.number())
 }

@@ -2,6 +2,7 @@
 ghost use Rattle.std.specs.Prelude.{◌≡◌, ◌≤◌, IfSome, map};
 ghost use Rattle.mastn.specs.Jobs.{job_of, lone_job, sized_job, digits_of, gen_of, gen_within, IsWithinLimits};
 
+use crate::limits::{GREATEST_NUMBER, GREATEST_SIZE};
 use net_text::numbers::number_of;
 
 /// What the words of the command line ask for.
@@ -13,6 +14,8 @@ pub enum Job {
     Certify,
     /// `verify`: read a network and a certificate, and check this.
     Verify,
+    /// `upgrade`: read a network and write it in version 2 of the text.
+    Upgrade,
     /// `gen NUMBER SIZE`: write the generated network of that number and size.
     Gen { number: u32, size: u32 },
 }
@@ -43,6 +46,9 @@ fn read_lone(word: &[u8]) -> Option<Job>
     }
     if word == b"verify".as_slice() {
         return Some(Job::Verify);
+    }
+    if word == b"upgrade".as_slice() {
+        return Some(Job::Upgrade);
     }
     None
 }
@@ -84,7 +90,7 @@ fn gen_within(number: i64, size: i64) -> Option<Job>
     ensures job { result ≡ gen_within number size }
     ensures within { IfSome result IsWithinLimits }
 {
-    if 0 <= number && number <= 2_147_483_645 && 1 <= size && size <= 32 {
+    if 0 <= number && number <= GREATEST_NUMBER && 1 <= size && size <= GREATEST_SIZE {
         return Some(Job::Gen {
             number: number as u32,
             size: size as u32,

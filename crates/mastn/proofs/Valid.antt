@@ -1,0 +1,124 @@
+-- The laws of valid inputs.
+use Rattle.std.proofs.Common.{◌≡◌, ℕ, ◌+◌, ◌≤◌, ◌⊎◌, inl, inr, ⊎_elim, Bool, true, false, List, length, drop, Option, None, Some, Result, Ok, Err, refl, sym, subst, ◌∙◌, arith, nat_lt, MatchBool}
+use Rattle.std.proofs.lemmas.Bool.Decides.{nat_tests}
+use Rattle.stn_io.specs.Bytes.{Loses}
+use Rattle.stn_io.specs.States.{SourceState, SinkState}
+use Rattle.stn_io.specs.declared.whole.ReadRefusal.{ReadRefusal}
+use Rattle.stn_io.specs.declared.whole.ReadRefusal.TheVariants as refusal
+use Rattle.stn_model.specs.Net.{Net}
+use Rattle.net_text.specs.declared.read.NetRead.{NetRead}
+use Rattle.net_text.specs.Networks.{text_of}
+use Rattle.cert_check.specs.declared.verdict.Verdict.{Verdict}
+use Rattle.cert_check.specs.declared.verdict.Verdict.TheVariants as verdict
+use Rattle.cert_check.specs.Certificates.{verdict_of}
+use Rattle.mastn.specs.declared.answer.Outcome.{Outcome}
+use Rattle.mastn.specs.declared.answer.Outcome.TheVariants.{Done, Inconsistent, NetBad, NotProved, TooLarge}
+use Rattle.mastn.specs.declared.question.Question.{Question}
+use Rattle.mastn.specs.declared.question.Question.TheVariants.{Check, Certify, Verify, Upgrade}
+use Rattle.mastn.specs.declared.status.Status.{Status}
+use Rattle.mastn.specs.declared.status.Status.TheVariants as status
+use Rattle.mastn.specs.Certificates.{is_too_large, SaysTooLarge, SaysCertificate, SaysVerdict, SaysChecked}
+use Rattle.mastn.specs.Checks.{Checks}
+use Rattle.mastn.specs.Gens.{Generates}
+use Rattle.mastn.specs.Laws.{IsShown, Suits, IsValidRun, IsReported, ValidInputsAreReported, GeneratedIsReported}
+use Rattle.mastn.specs.Questions.{OfNetwork, SaysRead, says_of}
+use Rattle.mastn.specs.Runs.{Means, MeansAlone}
+use Rattle.mastn.specs.Statuses.{status_of, meant_status}
+use Rattle.mastn.specs.Upgrades.{Upgrades}
+
+-- each job gives its report of a network that suits it
+checked : (net : Net) (o : Outcome) (text : List ℕ) → Checks net o text → IsReported (status_of o)
+checked net Done text h = inl refl
+checked net Inconsistent text h = inr (inl refl)
+checked net NetBad text h = absurd h
+checked net NotProved text h = absurd h
+checked net TooLarge text h = absurd h
+
+upgraded : (net : Net) (o : Outcome) (text : List ℕ) → Upgrades net o text → IsReported (status_of o)
+upgraded net Done text h = inl refl
+upgraded net Inconsistent text h = absurd h
+upgraded net NetBad text h = absurd h
+upgraded net NotProved text h = absurd h
+upgraded net TooLarge text h = absurd h
+
+has_certificate : (net : Net) (o : Outcome) (text : List ℕ) → SaysCertificate net o text → IsReported (status_of o)
+has_certificate net Done text h = inl refl
+has_certificate net Inconsistent text h = inr (inl refl)
+has_certificate net NetBad text h = absurd h
+has_certificate net NotProved text h = absurd h
+has_certificate net TooLarge text h = absurd h
+
+not_large : (n : ℕ) → n ≤ 256 → nat_lt 256 n ≡ false
+not_large n h = grind (arith, nat_tests)
+
+certified : (b : Bool) (net : Net) (o : Outcome) (text : List ℕ) → b ≡ false → MatchBool b (SaysTooLarge o text) (SaysCertificate net o text)
+    → IsReported (status_of o)
+certified true net o text e h = cc
+certified false net o text e h = has_certificate net o text h
+
+shown : (v : Verdict) (o : Outcome) (text : List ℕ) → IsShown v → SaysVerdict v o text → IsReported (status_of o)
+shown verdict.Consistent o text s h = rw h.0 (inl refl)
+shown verdict.Inconsistent o text s h = rw h.0 (inr (inl refl))
+shown (verdict.No number cause) o text s h = absurd s
+
+verified : (b : Bool) (net : Net) (first : ℕ) (bytes : List ℕ) (o : Outcome) (text : List ℕ) → b ≡ false → IsShown (verdict_of net first bytes)
+    → MatchBool b (SaysTooLarge o text) (SaysChecked net first bytes o text) → IsReported (status_of o)
+verified true net first bytes o text e s h = cc
+verified false net first bytes o text e s h = shown (verdict_of net first bytes) o text s h.says
+
+reported : (q : Question) (bytes : List ℕ) (read : NetRead) (o : Outcome) (text : List ℕ) → Suits q bytes read → OfNetwork q bytes read o text
+    → IsReported (status_of o)
+reported Check bytes read o text s h = checked read.net o text h
+reported Certify bytes read o text s h = certified (is_too_large read.net) read.net o text (not_large _ s) h
+reported Verify bytes read o text s h =
+    verified (is_too_large read.net) read.net (read.lines + 1) (drop read.used bytes) o text (not_large _ s.0) s.1 h
+reported Upgrade bytes read o text s h = upgraded read.net o text h
+
+-- no source that tells fewer bytes loses more
+not_long : (bytes : List ℕ) (after : Option (List ℕ)) → length bytes ≤ 16777216 → Loses (Some bytes) after 16777217 → ⊥
+not_long bytes None few gone = gone
+not_long bytes (Some ys) few gone = absurd (omega (arith, gone.0))
+
+module _ (q : Question) (source left : SourceState) (sink taken : SinkState) (v : IsValidRun q source left sink taken) where
+  said : (bytes : List ℕ) (o : Outcome) (text : List ℕ) → bytes ≡ v.bytes → says_of q bytes o text → OfNetwork q v.bytes v.read o text
+  said bytes o text e h =
+      subst (λ r. SaysRead (OfNetwork q v.bytes) r o text) v.begins (subst (λ bs. says_of q bs o text) e h)
+
+  meant_reports : (m : Result Outcome ReadRefusal) (text : List ℕ) → Means (says_of q) source left m text → IsReported (meant_status m)
+  meant_reports (Ok o) text m =
+      let same : m.0 ≡ v.bytes = rw v.told at m.1.told in
+      reported q v.bytes v.read o text v.suits (said m.0 o text same m.2)
+  meant_reports (Err refusal.ReadFault) text m = absurd (v.reads m.0.1)
+  meant_reports (Err refusal.TooLong) text m = absurd (not_long v.bytes left.left v.few (rw v.told at m.0.0))
+  meant_reports (Err refusal.OutOfMemory) text m = inr (inr refl)
+
+same_status : (answer meant : Status) → answer ≡ meant → IsReported meant → IsReported answer
+same_status answer meant e h = rw e h
+
+pub valid_inputs : ValidInputsAreReported
+valid_inputs q source left sink taken answer runs v =
+    let report = meant_reports q source left sink taken v runs.meant runs.text runs.means in
+    ⊎_elim (λ written. same_status answer (meant_status runs.meant) written.0 report) (λ failed. absurd (v.writes failed.1.rose)) runs.writes
+
+generates : (number size : ℕ) (o : Outcome) (text : List ℕ) → Generates number size o text → status_of o ≡ status.Done
+generates number size Done text h = refl
+generates number size Inconsistent text h = absurd h
+generates number size NetBad text h = absurd h
+generates number size NotProved text h = absurd h
+generates number size TooLarge text h = absurd h
+
+alone : (number size : ℕ) (m : Result Outcome ReadRefusal) (text : List ℕ) → MeansAlone (Generates number size) m text
+    → (meant_status m ≡ status.Done) ⊎ (meant_status m ≡ status.OutOfMemory)
+alone number size (Ok o) text m = inl (generates number size o text m)
+alone number size (Err refusal.ReadFault) text m = absurd m
+alone number size (Err refusal.TooLong) text m = absurd m
+alone number size (Err refusal.OutOfMemory) text m = inr refl
+
+same_end : (answer meant : Status) → answer ≡ meant → (meant ≡ status.Done) ⊎ (meant ≡ status.OutOfMemory)
+    → (answer ≡ status.Done) ⊎ (answer ≡ status.OutOfMemory)
+same_end answer meant e h = rw e h
+
+pub generated : GeneratedIsReported
+generated number size sink taken answer runs quiet =
+    ⊎_elim (λ written. same_end answer (meant_status runs.meant) written.0 (alone number size runs.meant runs.text runs.means))
+    (λ failed. absurd (quiet failed.1.rose)) runs.writes
