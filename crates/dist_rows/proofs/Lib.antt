@@ -1,2 +1,5 @@
 pub mod Lights
 pub mod Matrices
+pub mod Listings
+pub mod Offers
+pub mod Rooms

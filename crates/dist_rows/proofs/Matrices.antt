@@ -1,5 +1,5 @@
 -- One cell written.
-use Rattle.std.proofs.Common.{zero, suc, ◌≡◌, ◌≢◌, ℕ, ◌+◌, ◌*◌, ◌<◌, List, [], ◌∷◌, Bool, true, false, ◌&&◌, Option, Some, None, get_or, set, ap, sym}
+use Rattle.std.proofs.Common.{zero, suc, ◌≡◌, ◌≢◌, ℕ, ◌+◌, ◌*◌, ◌<◌, List, [], ◌∷◌, true, false, ◌&&◌, Option, Some, None, get_or, set, ap, sym}
 use Rattle.std.proofs.Common.{◌∙◌, refl, length, arith, get_or-set_other, get_or-set_same}
 use Rattle.std.proofs.lemmas.Bool.{and_parts}
 use Rattle.std.proofs.lemmas.Nat.{same_from_place, mul-add-lt}

@@ -1,6 +1,8 @@
 -- What rows of cells mean: which cell is written, which stay, and who are neighbours. A map of cells is a function of pairs.
-use Rattle.std.specs.Prelude.{ℕ, ◌<◌, ◌≤◌, ◌^◌, ℤ, nat_abs, int_lt, Bool, true, ◌&&◌, ◌||◌, ◌==◌, Option, Some, None, is_some, nat_le, if◌then◌else◌, IfSome}
+use Rattle.std.specs.Prelude.{ℕ, ◌<◌, ◌≤◌, ◌^◌, ℤ, pos, ◌+ℤ◌, List, [], ◌∷◌, slice_index_or, length, nat_abs, int_lt, Bool, true, ◌&&◌, ◌||◌, not, ◌==◌, Option, Some, None, is_some, nat_le, if◌then◌else◌, IfSome}
 use Rattle.dist_rows.specs.declared.cell.Cell.{Cell}
+use Rattle.dist_rows.specs.declared.cell.Offer.{Offer}
+use Rattle.dist_rows.specs.declared.cell.Via.TheVariants.{Through}
 
 -- whether a new cell is written over an old one: there is none, or its weight is strictly greater
 abbrev pub is_lower : Option Cell → Cell → Bool
@@ -37,3 +39,32 @@ is_light (Some c) = nat_le (nat_abs c.weight) (2 ^ 100)
 -- all cells have weights of magnitude at most 2 ^ n
 abbrev pub AllLight : ℕ → (ℕ → ℕ → Option Cell) → Type 0
 AllLight n f = (p q : ℕ) → IfSome (f p q) (λ c. IsLight n c.weight)
+
+-- the cell of a sum through k: a weight up to k and an offered one from there on
+abbrev pub cell_through : ℕ → ℤ → Offer → Cell
+cell_through k by o = record { weight = by +ℤ o.weight; via = Through k }
+
+-- the offer to a place
+abbrev pub offer_to : List Offer → ℕ → Option Offer
+offer_to [] q = None
+offer_to (o ∷ os) q = if o.place == q then Some o else offer_to os q
+
+-- the cell after it is lowered to the sum of an offer, where there is one
+abbrev pub after_offer : ℕ → ℤ → Option Offer → Option Cell → Option Cell
+after_offer k by None old = old
+after_offer k by (Some o) old = lesser old (cell_through k by o)
+
+-- the cells after those of the row of i are lowered to the sums of offers. An offer to i itself changes nothing
+abbrev pub row_lowered : ℕ → ℕ → ℤ → List Offer → (ℕ → ℕ → Option Cell) → ℕ → ℕ → Option Cell
+row_lowered i k by os f p q = if (p == i) && not (q == i) then after_offer k by (offer_to os q) (f p q) else f p q
+
+abbrev pub no_offer : Offer
+no_offer = record { weight = pos 0; place = 0 }
+
+-- the offer of a number, and its place
+abbrev pub offer_at : List Offer → ℕ → Offer
+offer_at os m = slice_index_or os m no_offer
+
+-- the places rise
+abbrev pub AreRising : List Offer → Type 0
+AreRising os = (m n : ℕ) → m < n → n < length os → (offer_at os m).place < (offer_at os n).place

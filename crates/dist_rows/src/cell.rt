@@ -22,6 +22,13 @@ pub struct Cell {
     pub via: Via,
 }
 
+/// A weight, in the network's unit of time, that is offered to the cell at a place of some row.
+#[derive(Clone, Copy, PartialEq, Eq, Debug)]
+pub struct Offer {
+    pub weight: i128,
+    pub place: u32,
+}
+
 impl Cell {
     /// Whether this cell is written over `old`: there is no old cell, or its weight is strictly greater.
     pub fn is_below(&self, old: Option<Cell>) -> bool

@@ -2,11 +2,13 @@
 #![tactic(auto)]
 
 pub mod cell;
+pub mod listed;
 pub mod matrix;
 pub mod rows;
 mod slot;
 
-pub use cell::{Cell, Via};
+pub use cell::{Cell, Offer, Via};
+pub use listed::Listed;
 pub use matrix::MatrixRows;
 pub use rows::Rows;
 

@@ -3,10 +3,12 @@ ghost use Rattle.std.specs.Prelude.{◌≡◌, ◌≢◌, ◌↔◌, ℕ, ◌+�
 ghost use Rattle.std.specs.List.{list_all};
 ghost use Rattle.dist_rows.specs.declared.cell.Cell.{Cell};
 ghost use Rattle.dist_rows.specs.declared.slot.Slot.{Slot};
-ghost use Rattle.dist_rows.specs.Cells.{lowered, is_lower, are_neighbours, IsAbove, IsLight};
+ghost use Rattle.dist_rows.specs.Cells.{lowered, is_lower, are_neighbours, IsAbove, IsLight, offer_at, row_lowered, AreRising};
+ghost use Rattle.dist_rows.specs.Places.{is_roomless};
 ghost use Rattle.dist_rows.specs.Slots.{holds_light, no_slot};
 
-use crate::cell::Cell;
+use crate::cell::{Cell, Offer, Via};
+use crate::listed::{Listed, put_where};
 use crate::rows::Rows;
 use crate::slot::Slot;
 use std::alloc::Global;
@@ -22,7 +24,8 @@ pub struct MatrixRows {
 }
 
 impl MatrixRows {
-    ghost use Rattle.dist_rows.specs.Matrix.{cell_at};
+    ghost use Rattle.dist_rows.specs.Matrix.{cell_at, in_room};
+    ghost use Rattle.dist_rows.specs.Turns.{offered};
 
     // Where the slot of a pair stands.
     fn place(&self, i: u32, j: u32) -> usize
@@ -31,6 +34,24 @@ impl MatrixRows {
         ensures within { result < vec_len self.now.slots }
     {
         i as usize * self.size as usize + j as usize
+    }
+
+    // Lowers one cell to an offered sum.
+    fn offer(&mut self, i: u32, offer: Offer, by: i128, k: u32)
+        requires room { i ≢ offer.place → in_room self.old.size i offer.place ≡ true }
+        requires light { IsLight 99 offer.weight }
+        requires by { IsLight 99 by }
+        ensures cells { (p q : ℕ) → cell_at self.new.size self.new.slots.items p q ≡ offered i k by offer (cell_at self.old.size self.old.slots.items) p q }
+        ensures size { self.new.size ≡ self.old.size }
+    {
+        if offer.place == i {
+            return;
+        }
+        let cell = Cell {
+            weight: by + offer.weight,
+            via: Via::Through(k),
+        };
+        self.lower(i, offer.place, cell);
     }
 
     // Whether there is a cell between two places in either direction.
@@ -89,6 +110,30 @@ impl Rows for MatrixRows {
         lower
     }
 
+    fn make_room_row(&mut self, _i: u32, _list: &[u32]) -> Result<(), OutOfMemory> {
+        Ok(())
+    }
+
+    fn make_room_among(&mut self, _list: &[u32]) -> Result<(), OutOfMemory> {
+        Ok(())
+    }
+
+    fn count_roomless(&self, _i: u32, _list: &[u32]) -> usize {
+        0
+    }
+
+    fn lower_row(&mut self, i: u32, offers: &[Offer], by: i128, k: u32) {
+        for n in 0..offers.len() {
+            self.offer(i, offers[n], by, k);
+        }
+    }
+
+    fn read_row(&self, i: u32, others: &[u32], cells: &mut [Option<Cell>]) {
+        for n in 0..others.len() {
+            cells[n] = self.get(i, others[n]);
+        }
+    }
+
     fn next_neighbour(&self, i: u32, after: Option<u32>) -> Option<u32> {
         for n in first_after(after)..u64::from(self.size) {
             let n = n as u32;
@@ -97,6 +142,20 @@ impl Rows for MatrixRows {
             }
         }
         None
+    }
+
+    fn neighbours(&self, i: u32, from: u32, list: &mut [u32]) -> Listed {
+        let mut count = 0;
+        for n in from..self.size {
+            if count == list.len() {
+                return Listed { count, end: n };
+            }
+            count = put_where(list, count, n, self.touches(i, n));
+        }
+        Listed {
+            count,
+            end: self.size,
+        }
     }
 
     fn copy(&self, alloc: Global) -> Result<Self, OutOfMemory> {
