@@ -1,7 +1,7 @@
--- How causes are written in an error line: cause_word, cause_values, cause_fields, error_line.
+-- How causes are written in an error line: cause_word, cause_values, error_line.
 use Rattle.std.specs.Prelude.{ℕ, List, [], ◌∷◌, codes}
 use Rattle.std.specs.Fmt.{decimal, signed_decimal}
-use Rattle.net_text.specs.Plain.{line}
+use Rattle.schedule_report.specs.Lines as report
 use Rattle.cert_check.specs.declared.verdict.CertCause.{CertCause}
 use Rattle.cert_check.specs.declared.verdict.CertCause.TheVariants as cause
 
@@ -39,10 +39,6 @@ cause_values cause.BadCycle = []
 cause_values cause.NoEnd = []
 cause_values cause.AfterEnd = []
 
--- the word and the values
-abbrev pub cause_fields : CertCause → List (List ℕ)
-cause_fields c = cause_word c ∷ cause_values c
-
 -- the line that tells the number of a false line, and why it is false
 abbrev pub error_line : ℕ → CertCause → List ℕ
-error_line number c = line (codes "error") (decimal number ∷ cause_fields c)
+error_line number c = report.error_line number (cause_word c) (cause_values c)
