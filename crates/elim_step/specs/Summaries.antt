@@ -1,7 +1,13 @@
--- Which lists of entries are summaries: pairs strictly rise by from and to, ends differ, weights have magnitude at most 2^53.
+-- Which lists of entries are summaries: pairs strictly rise by from and to, ends differ, weights have magnitude at most 2^53. An entry by numbers of
+-- points: entry_of.
 use Rattle.std.specs.Prelude.{List, [], ◌∷◌, Bool, true, ◌&&◌, ◌||◌, not, nat_lt, ◌==◌, nat_le, nat_abs, Option, Some, None}
 use Rattle.stn_model.specs.Limits.{greatest_walk}
+use Rattle.stn_model.specs.Summaries.{Entry}
 use Rattle.elim_step.specs.declared.summary.SummaryEntry.{SummaryEntry}
+
+-- an entry of a summary, by numbers of points
+abbrev pub entry_of : SummaryEntry → Entry
+entry_of e = record { from = e.from.0; to = e.to.0; weight = e.weight }
 
 -- whether the ends differ and the weight is in range
 abbrev pub is_valid : SummaryEntry → Bool

@@ -1,6 +1,5 @@
 -- Walks of own arcs, and the conflicts that they are.
 pub mod Unfolding
-pub mod ButOne
 pub mod NoConflicts
 pub mod NumberedWalks
 pub mod Failing

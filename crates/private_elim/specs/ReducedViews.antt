@@ -1,13 +1,14 @@
--- What contracts see of a reduced local problem: ReducedView, entry_of, entry_in, first_there, weight_between, IsWeightBetween, IsReduced.
+-- What contracts see of a reduced local problem: ReducedView, entry_in, first_there, weight_between, IsWeightBetween, IsReduced.
 use Rattle.std.specs.Prelude.{◌≡◌, ◌≢◌, ◌⊎◌, ℕ, ℤ, List, [], ◌∷◌, true, ◌&&◌, ◌==◌, Option, Some, None, map, reverse, if◌then◌else◌}
 use Rattle.std.specs.List.{AllByRecursion}
 use Rattle.stn_model.specs.Net.{Net}
 use Rattle.stn_model.specs.Valid.{IsNetwork}
-use Rattle.stn_model.specs.Summaries.{Entry, IsSummary}
+use Rattle.stn_model.specs.Summaries.{IsSummary}
 use Rattle.stn_model.specs.Inner.{IsInnerWeight}
 use Rattle.stn_model.specs.Walks.{AllDifferent}
 use Rattle.stn_walk.specs.Eliminations.{is_in, before_both}
 use Rattle.elim_step.specs.declared.summary.SummaryEntry.{SummaryEntry}
+use Rattle.elim_step.specs.Summaries.{entry_of}
 use Rattle.elim_step.specs.Eliminated.{forward_of}
 use Rattle.private_elim.specs.Locals.{LocalView, IsLocal, local_of, arcs_in, all_numbered, is_private_in}
 
@@ -16,10 +17,6 @@ pub record ReducedView : Type 0 where
   pub local : LocalView
   pub order : List ℕ
   pub summary : List SummaryEntry
-
--- an entry of a summary, by numbers of points
-abbrev pub entry_of : SummaryEntry → Entry
-entry_of e = record { from = e.from.0; to = e.to.0; weight = e.weight }
 
 -- the weight of a pair's entry, where it has one
 abbrev pub entry_in : List SummaryEntry → ℕ → ℕ → Option ℤ

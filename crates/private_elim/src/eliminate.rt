@@ -11,7 +11,7 @@ ghost use Rattle.elim_step.specs.Picks.{candidate_at};
 ghost use Rattle.private_elim.specs.Taken.{StopsAt, Fails};
 ghost use Rattle.private_elim.specs.Outcomes.{IsNext, IsReducedFrom, IsConflictFrom, IsPickedOutcome, IsListedOutcome};
 ghost use Rattle.private_elim.specs.Picked.{AreCandidates, ArePicked, IsStopped};
-ghost use Rattle.private_elim.specs.ReducedViews.{entry_of};
+ghost use Rattle.elim_step.specs.Summaries.{entry_of};
 ghost use Rattle.private_elim.specs.Reductions.{OfNetwork, HasOwnConflict, is_conflict, IfReduced, IfConflict};
 
 use crate::conflict::own_conflict;

@@ -25,7 +25,8 @@ use Rattle.elim_step.specs.Summaries.{is_valid, is_summary}
 use Rattle.elim_step.proofs.Weights.{forward-whole}
 use Rattle.elim_step.specs.Eliminated.{point_at}
 use Rattle.private_elim.specs.Locals.{local_of, arcs_in, place_in, private_at, passes_at, is_private_in, is_seen_in, horizon_in}
-use Rattle.private_elim.specs.ReducedViews.{entry_of, IsReduced}
+use Rattle.elim_step.specs.Summaries.{entry_of}
+use Rattle.private_elim.specs.ReducedViews.{IsReduced}
 use Rattle.private_elim.specs.Taken.{TakenView, HasTaken}
 use Rattle.private_elim.specs.SummaryRows.{is_pair_at, joined_at, forward_at, entry_at, rows_below}
 use Rattle.private_elim.proofs.locals.Places.{place_found}

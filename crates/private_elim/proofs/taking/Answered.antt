@@ -12,7 +12,8 @@ use Rattle.private_elim.specs.declared.outcome.PrivateOutcome.TheVariants.{Reduc
 use Rattle.private_elim.specs.Locals.{LocalView, is_private_in, local_of}
 use Rattle.private_elim.specs.Taken.{StopsAt}
 use Rattle.private_elim.specs.Picked.{ArePicked, IsStopped}
-use Rattle.private_elim.specs.ReducedViews.{ReducedView, entry_of}
+use Rattle.elim_step.specs.Summaries.{entry_of}
+use Rattle.private_elim.specs.ReducedViews.{ReducedView}
 use Rattle.private_elim.specs.Reductions.{OfNetwork, HasOwnConflict, is_conflict, IfReduced, IfConflict}
 use Rattle.private_elim.specs.Outcomes.{IsReducedWith, IsConflictWith, IsPickedOutcome, IsListedOutcome}
 

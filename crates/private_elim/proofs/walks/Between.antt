@@ -13,7 +13,8 @@ use Rattle.stn_walk.proofs.Visits.{least_unique}
 use Rattle.elim_step.specs.declared.summary.SummaryEntry.{SummaryEntry}
 use Rattle.elim_step.specs.Eliminated.{forward_of, point_at}
 use Rattle.private_elim.specs.Locals.{local_of, arcs_in, place_in, private_at, passes_at, horizon_in}
-use Rattle.private_elim.specs.ReducedViews.{ReducedView, IsReduced, entry_of, entry_in, first_there, weight_between, IsWeightBetween}
+use Rattle.elim_step.specs.Summaries.{entry_of}
+use Rattle.private_elim.specs.ReducedViews.{ReducedView, IsReduced, entry_in, first_there, weight_between, IsWeightBetween}
 use Rattle.private_elim.specs.Taken.{TakenView, HasTaken}
 use Rattle.private_elim.specs.SummaryRows.{is_pair_at, forward_at, entry_at, is_over}
 use Rattle.private_elim.proofs.locals.LocalFacts.{numbered-is, seen_of_net}

@@ -20,7 +20,7 @@ use Rattle.private_elim.specs.Locals.{LocalView, IsLocal, arcs_in, all_numbered,
 use Rattle.private_elim.specs.Numbers.{number_in}
 use Rattle.private_elim.specs.Reductions.{OfNetwork}
 use Rattle.private_elim.proofs.locals.LocalFacts.{private_of_net, numbered-is}
-use Rattle.private_elim.proofs.walks.ButOne.{passes_but_one}
+use Rattle.stn_walk.proofs.ButOne.{passes_but_one}
 use Rattle.private_elim.proofs.walks.NumberedWalks.{same_walk, still_normal}
 
 -- a number of the list passes what all of it pass

@@ -14,13 +14,12 @@ use Rattle.stn_model.specs.Walks.{IsWalk, weight, end_of, heads}
 use Rattle.stn_model.specs.ArcWalks.{GoesOn, IsInner, NoNegative}
 use Rattle.stn_model.specs.Conflicts.{own_arcs, IsOwnConflict}
 use Rattle.stn_model.proofs.WalkLemmas.{IsWalk-append, IsWalk-front, IsWalk-back, weight-append}
-use Rattle.stn_model.proofs.Bridges.{arcs_weight-map}
+use Rattle.stn_model.proofs.Bridges.{arc_contained, arcs_weight-map}
 use Rattle.stn_walk.specs.Eliminations.{is_in}
 use Rattle.stn_walk.proofs.Visits.{inner_in}
-use Rattle.private_elim.specs.Locals.{LocalView, local_of, numbered_own, arcs_in, is_private_in}
-use Rattle.private_elim.proofs.locals.OwnArcs.{numbered_arc, numbered_plain, own_contained}
-use Rattle.private_elim.proofs.walks.ButOne.{fails_once, fails_more, all_pass}
-use Rattle.private_elim.proofs.locals.Parts.{Contains-map}
+use Rattle.private_elim.specs.Locals.{LocalView, local_of, arcs_in, is_private_in}
+use Rattle.stn_walk.proofs.PrivateArcs.{own_listed}
+use Rattle.stn_walk.proofs.ButOne.{fails_once, fails_more, all_pass}
 use Rattle.private_elim.proofs.locals.LocalFacts.{arcs_of_net, private_of_net}
 
 -- the parts of a list
@@ -77,18 +76,14 @@ some_arc arcs [] low = absurd (omega (arith, ints))
 some_arc arcs (n ∷ ns) low = omega arith
 
 module _ (net : Net) (agent : ℕ) where
-  -- an arc of the network that is own is among the own arcs
-  pub own_listed : (n : ℕ) → n < length (arcs_of net) → is_own net agent (arc_at (arcs_of net) n) ≡ true
-      → Contains (own_arcs net agent) (arc_at (arcs_of net) n)
-  own_listed n lt own =
-      subst (λ xs. Contains xs (arc_at (arcs_of net) n)) (numbered_plain net agent)
-      (Contains-map (λ a. a.arc) (numbered_own net agent) (numbered_arc net n) (own_contained net agent (length (arcs_of net)) n lt own))
-
-  -- so are the arcs of a walk
+  -- the arcs of a walk that are own are among the own arcs
   each_listed : (i j : ℕ) (ns : List ℕ) → IsWalk (arcs_of net) i j ns → AllByRecursion (λ n. is_own net agent (arc_at (arcs_of net) n) ≡ true) ns
       → AllByRecursion (λ n. Contains (own_arcs net agent) (arc_at (arcs_of net) n)) ns
   each_listed i j [] w own = tt
-  each_listed i j (n ∷ ns) w own = (own_listed n w.0 own.0, each_listed (to_at (arcs_of net) n) j ns w.2 own.1)
+  each_listed i j (n ∷ ns) w own = (
+    own_listed net agent (arc_at (arcs_of net) n) (arc_contained (arcs_of net) n w.0) own.0,
+    each_listed (to_at (arcs_of net) n) j ns w.2 own.1,
+  )
 
   -- the cycle, begun at the end of the arc that may end at a point that is not private, would be such a closed walk
   pub no_own_conflict : NoNegative (is_private_of net agent) (own_arcs net agent) → (cycle : List ℕ) → IsOwnConflict net agent cycle → ⊥
