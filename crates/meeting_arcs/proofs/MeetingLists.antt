@@ -16,15 +16,15 @@ use Rattle.stn_walk.proofs.PrivateArcs.{from_shared, to_shared}
 use Rattle.meeting_arcs.proofs.EntryWalks.{upper_listed, lower_listed}
 
 -- what an image has
-contains_map : {X Y : Type 0} (f : X → Y) (xs : List X) (x : X) → Contains xs x → Contains (map f xs) (f x)
+pub contains_map : {X Y : Type 0} (f : X → Y) (xs : List X) (x : X) → Contains xs x → Contains (map f xs) (f x)
 contains_map f xs x h = (h.0, omega (arith, h.1, length-map xs f), get_or-map f xs h.0 x (f x) h.1 ∙ ap f h.2)
 
 -- and what it comes from
-map_contains : (es : List Entry) (a : Constraint) → Contains (map entry_arc es) a → (e : Entry) × Contains es e × (a ≡ entry_arc e)
-map_contains [] a h = absurd (let low : h.0 < 0 = h.1 in omega arith)
-map_contains (e ∷ es) a (zero, lt, is) = (e, (0, omega arith, refl), sym is)
-map_contains (e ∷ es) a (suc k, lt, is) =
-    let rest = map_contains es a (k, omega arith, is) in
+pub map_contains : {X Y : Type 0} (f : X → Y) (xs : List X) (y : Y) → Contains (map f xs) y → (x : X) × Contains xs x × (y ≡ f x)
+map_contains f [] y h = absurd (let low : h.0 < 0 = h.1 in omega arith)
+map_contains f (x ∷ xs) y (zero, lt, is) = (x, (0, omega arith, refl), sym is)
+map_contains f (x ∷ xs) y (suc k, lt, is) =
+    let rest = map_contains f xs y (k, omega arith, is) in
     let there = rest.1 in
     (rest.0, (suc there.0, omega (arith, there.1), there.2), rest.2)
 
@@ -41,7 +41,7 @@ in_entries : (summaries : List (List Entry)) (a : Constraint) → Contains (entr
 in_entries [] a h = absurd (let low : h.0 < 0 = h.1 in omega arith)
 in_entries (es ∷ summaries) a h =
     elim (Contains-append_cases (map entry_arc es) (entry_arcs summaries) a h) [
-      | inl here ↦ (let m = map_contains es a here in record { agent = 0; known = omega arith; entry = m.0; listed = m.1; is = m.2 })
+      | inl here ↦ (let m = map_contains entry_arc es a here in record { agent = 0; known = omega arith; entry = m.0; listed = m.1; is = m.2 })
       | inr later ↦ (let r = in_entries summaries a later in let lt = r.known in
           record { agent = suc r.agent; known = omega arith; entry = r.entry; listed = r.listed; is = r.is })
     ]

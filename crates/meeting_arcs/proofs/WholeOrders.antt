@@ -17,7 +17,7 @@ goes_in : (inner : ℕ → Bool) (arcs : List Constraint) (m j : ℕ) (w : List 
 goes_in inner arcs m j [] has h = h
 goes_in inner arcs m j (a ∷ w) has h = (ap inner (sym h.2) ∙ has a h.1, h.1, h.2, goes_in inner arcs a.to.0 j w has h.3)
 
-inner_in : (inner : ℕ → Bool) (arcs : List Constraint) (i j : ℕ) (w : List Constraint) → ((a : Constraint) → Contains arcs a → inner a.from.0 ≡ true)
+pub inner_in : (inner : ℕ → Bool) (arcs : List Constraint) (i j : ℕ) (w : List Constraint) → ((a : Constraint) → Contains arcs a → inner a.from.0 ≡ true)
     → IsInner every arcs i j w → IsInner inner arcs i j w
 inner_in inner arcs i j [] has h = absurd h
 inner_in inner arcs i j (a ∷ w) has h = (h.0, h.1, goes_in inner arcs a.to.0 j w has h.2)

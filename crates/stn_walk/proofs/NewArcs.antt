@@ -9,11 +9,10 @@ use Rattle.stn_walk.specs.Eliminations.{lesser}
 use Rattle.stn_walk.proofs.Eliminations.{LeastArc}
 
 -- no arc has an end in the set
-pub IsOutside : (ℕ → Bool) → List Constraint → Type 0
+abbrev pub IsOutside : (ℕ → Bool) → List Constraint → Type 0
 IsOutside inner new = (a : Constraint) → Contains new a → (inner a.from.0 ≡ false) × (inner a.to.0 ≡ false)
 
 goes_old : (inner : ℕ → Bool) (arcs new : List Constraint) (m j : ℕ) (w : List Constraint) → IsOutside inner new → GoesOn inner (arcs ++ new) m j w → GoesOn inner arcs m j w
-unfolding IsOutside
 goes_old inner arcs new m j [] out h = h
 goes_old inner arcs new m j (a ∷ w) out h =
     elim (Contains-append_cases arcs new a h.1) [
@@ -32,7 +31,6 @@ inner_more inner arcs new i j (a ∷ w) h = (Contains-append_left arcs new a h.0
 -- a walk is a walk of the old arcs, or one new arc
 pub old_or_new : (inner : ℕ → Bool) (arcs new : List Constraint) (i j : ℕ) (w : List Constraint) → IsOutside inner new → IsInner inner (arcs ++ new) i j w
     → IsInner inner arcs i j w ⊎ ((a : Constraint) × Contains new a × (a.from.0 ≡ i) × (a.to.0 ≡ j) × (w ≡ a ∷ []))
-unfolding IsOutside
 old_or_new inner arcs new i j [] out h = absurd h
 old_or_new inner arcs new i j (a ∷ []) out h =
     elim (Contains-append_cases arcs new a h.0) [ inl c ↦ inl (c, h.1, h.2) | inr c ↦ inr (a, c, h.1, h.2, refl) ]
