@@ -249,3 +249,7 @@ sought_here es p rising lt = record {
   below = λ q less. rising q p less lt;
   above = λ q least less. above_up es q p (place_at es p) rising least less (omega arith);
 }
+
+-- the cell of an entry is that of its place
+pub cell_of_entry : (es : List Entry) (p : ℕ) → IsRising es → p < length es → cell_in (slice_index_or es p no_entry) ≡ cell_at es (place_at es p)
+cell_of_entry es p rising lt = cell_there es p (place_at es p) (sought_here es p rising lt) lt refl

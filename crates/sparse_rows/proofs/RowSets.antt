@@ -1,17 +1,17 @@
 -- One row replaced among the rows.
 use Rattle.std.proofs.Common.{zero, suc, ◌≡◌, ◌≢◌, ℕ, ◌+◌, ◌<◌, ◌≤◌, List, [], ◌∷◌, ◌++◌, Bool, true, false, ◌&&◌, ◌||◌, Option, Some, None, set, take, ap, sym, ◌∙◌, refl, length, arith, subst, get_or-set_other, get_or-set_same, length-set}
 use Rattle.std.proofs.lemmas.List.{get_or_read, get_or_default}
-use Rattle.std.specs.Prelude.{◌==◌, if◌then◌else◌, is_some, IfSome, slice_index_or, nat_lt, int_lt}
+use Rattle.std.specs.Prelude.{◌==◌, not, if◌then◌else◌, is_some, IfSome, slice_index_or, nat_lt, int_lt}
 use Rattle.std.proofs.lemmas.Bool.Decides.{nat_tests}
 use Rattle.dist_rows.specs.declared.cell.Cell.{Cell}
 use Rattle.dist_rows.specs.declared.cell.Offer.{Offer}
 use Rattle.dist_rows.specs.Cells.{lesser, lowered, are_neighbours, IsLight, offer_at, no_offer, AreRising}
-use Rattle.dist_rows.specs.Places.{AreRisingPlaces, IsListing, is_roomless, count_roomless}
+use Rattle.dist_rows.specs.Places.{lists, AreRisingPlaces, IsListing, is_roomless, count_roomless}
 use Rattle.dist_rows.proofs.Listings.{listing_empty, listing_more}
-use Rattle.std.proofs.lemmas.List.Sums.{count_by_more_yes, count_by_more_no}
+use Rattle.std.proofs.lemmas.List.Sums.{count_by_more_yes, count_by_more_no, sum_by-take-le}
 use Rattle.sparse_rows.specs.declared.entry.Entry.{Entry}
 use Rattle.sparse_rows.specs.Entries.{cell_at, opens, knows, entry_in, place_at, IsRising, IsSought, IsHere}
-use Rattle.sparse_rows.specs.SparseMaps.{row_of, AreRows, cells_of, rooms_of, known_from_room, have_room, are_light}
+use Rattle.sparse_rows.specs.SparseMaps.{row_of, AreRows, AreOpen, cells_of, rooms_of, known_from_room, have_room, are_light}
 use Rattle.sparse_rows.proofs.RowEntries.{found, above_up, here_from_known, sought_here}
 
 pub row_set : (rows : List (List Entry)) (i p : ℕ) (r : List Entry) → i < length rows → row_of (set rows i r) p ≡ (if p == i then r else row_of rows p)
@@ -250,3 +250,63 @@ count_more room i list n count lt so =
 pub at_most_one : (w : Bool) → (if w then 1 else 0) ≤ 1
 at_most_one true = omega arith
 at_most_one false = omega arith
+
+-- a place of a list stands somewhere in it
+pub stands_at : (list : List ℕ) (p : ℕ) (X : Type 0) → lists list p ≡ true → ((m : ℕ) → m < length list → slice_index_or list m 0 ≡ p → X) → X
+stands_at [] p X there k = absurd (cc)
+stands_at (x ∷ xs) p X there k =
+    elim (p == x) as (λ w. (p == x) ≡ w → (w || lists xs p) ≡ true → X) [
+      | true ↦ λ same g. k zero (omega arith) (grind (arith, nat_tests))
+      | false ↦ λ other g. stands_at xs p X g (λ m l is. k (suc m) (omega (arith, l)) is)
+    ] refl there
+
+-- where no pair of i with a place of a list is counted, all have room
+pub counted_none : (room : ℕ → ℕ → Bool) (i : ℕ) (list : List ℕ) → count_roomless room i list ≡ 0 → (q : ℕ) → lists list q ≡ true → i ≢ q → room i q ≡ true
+counted_none room i list none q there apart = stands_at list q (room i q ≡ true) there (λ m l is.
+    elim (is_roomless room i (slice_index_or list m 0)) as (λ w. is_roomless room i (slice_index_or list m 0) ≡ w → room i q ≡ true) [
+      | true ↦ λ h. (let more = count_by_more_yes (is_roomless room i) list m 0 l h in
+          let few = sum_by-take-le (λ x. if is_roomless room i x then 1 else 0) list (m + 1) in absurd (omega (arith, more, few, none)))
+      | false ↦ λ h. full (room i q) (subst (λ (k : ℕ). is_roomless room i k ≡ false) is h)
+    ] refl) where
+      full : (b : Bool) → (not (i == q) && not b) ≡ false → b ≡ true
+      full true h = refl
+      full false h = absurd (let yes : (not (i == q) && true) ≡ true = grind (arith, nat_tests) in let no : true ≡ false = sym yes ∙ h in cc)
+
+-- one place more whose pairs with a list have room
+pub open_more : (rows : List (List Entry)) (list : List ℕ) (n : ℕ)
+    → ((m q : ℕ) → m < n → lists list q ≡ true → slice_index_or list m 0 ≢ q → rooms_of rows (slice_index_or list m 0) q ≡ true)
+    → count_roomless (rooms_of rows) (slice_index_or list n 0) list ≡ 0
+    → (m q : ℕ) → m < n + 1 → lists list q ≡ true → slice_index_or list m 0 ≢ q → rooms_of rows (slice_index_or list m 0) q ≡ true
+open_more rows list n old none m q less there apart =
+    elim (nat_lt m n) as (λ w. nat_lt m n ≡ w → rooms_of rows (slice_index_or list m 0) q ≡ true) [
+      | true ↦ λ h. old m q (grind (arith, nat_tests)) there apart
+      | false ↦ λ h. (let last : n ≡ m = grind (arith, nat_tests) in
+          counted_none (rooms_of rows) (slice_index_or list m 0) list (subst (λ (k : ℕ). count_roomless (rooms_of rows) (slice_index_or list k 0) list ≡ 0) last none) q there apart)
+    ] refl
+
+pub open_all : (rows : List (List Entry)) (list : List ℕ)
+    → ((m q : ℕ) → m < length list → lists list q ≡ true → slice_index_or list m 0 ≢ q → rooms_of rows (slice_index_or list m 0) q ≡ true) → AreOpen rows list
+open_all rows list each p q first second apart = stands_at list p (rooms_of rows p q ≡ true) first
+    (λ m l is. subst (λ (k : ℕ). rooms_of rows k q ≡ true) is (each m q l second (λ same. apart (sym is ∙ same))))
+
+-- room that is there already
+pub open_already : (rows : List (List Entry)) (list : List ℕ) → AreOpen rows list → (p q : ℕ) → rooms_of rows p q ≡ ((not (p == q) && lists list p && lists list q) || rooms_of rows p q)
+open_already rows list each p q = there (lists list p) (lists list q) (rooms_of rows p q) (each p q) where
+  there : (a b c : Bool) → (a ≡ true → b ≡ true → p ≢ q → c ≡ true) → c ≡ ((not (p == q) && a && b) || c)
+  there true true true h = grind (arith, nat_tests)
+  there true true false h = grind (arith, nat_tests)
+  there true false c h = grind (arith, nat_tests)
+  there false b c h = grind (arith, nat_tests)
+
+pub row_open_already : (rows : List (List Entry)) (i : ℕ) (list : List ℕ) → count_roomless (rooms_of rows) i list ≡ 0
+    → (p q : ℕ) → rooms_of rows p q ≡ ((not (p == q) && (p == i) && lists list q) || rooms_of rows p q)
+row_open_already rows i list none p q =
+    elim (p == i) as (λ w. (p == i) ≡ w → rooms_of rows p q ≡ ((not (p == q) && w && lists list q) || rooms_of rows p q)) [
+      | true ↦ λ same. (let is : i ≡ p = grind (arith, nat_tests) in
+          there (lists list q) (rooms_of rows p q) (λ h apart. subst (λ (k : ℕ). rooms_of rows k q ≡ true) is (counted_none (rooms_of rows) i list none q h (λ e. apart (sym is ∙ e)))))
+      | false ↦ λ other. grind (arith, nat_tests)
+    ] refl where
+      there : (b c : Bool) → (b ≡ true → p ≢ q → c ≡ true) → c ≡ ((not (p == q) && true && b) || c)
+      there true true h = grind (arith, nat_tests)
+      there true false h = grind (arith, nat_tests)
+      there false c h = grind (arith, nat_tests)

@@ -216,6 +216,15 @@ impl Row {
         None
     }
 
+    /// The cell of an entry.
+    pub fn cell_here(&self, at: usize) -> Option<Cell>
+        requires rising { IsRising self.now }
+        requires within { at < length self.now }
+        ensures { result ≡ cell_at self.now (place_at self.now at) }
+    {
+        self.entry(at).cell()
+    }
+
     /// The cell at a place.
     pub fn get(&self, j: u32) -> Option<Cell>
         requires { IsRising self.now }
@@ -348,6 +357,14 @@ impl Row {
             return self.entry(at).is_open();
         }
         false
+    }
+
+    /// Whether there is room at a place.
+    pub fn is_open(&self, j: u32) -> bool
+        requires { IsRising self.now }
+        ensures { result ≡ opens self.now j }
+    {
+        self.has_room(self.seek(u64::from(j)), j)
     }
 
     /// The same entries.

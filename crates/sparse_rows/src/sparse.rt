@@ -5,7 +5,7 @@ ghost use Rattle.dist_rows.specs.Cells.{lowered, is_lower, are_neighbours, IsAbo
 ghost use Rattle.dist_rows.specs.Places.{AreWithin, AreRisingPlaces, is_roomless, count_roomless};
 ghost use Rattle.dist_rows.specs.Turns.{offered, roomed, row_roomed, all_roomed};
 ghost use Rattle.sparse_rows.specs.Entries.{cell_at, opens, knows, place_at, IsRising, IsSought};
-ghost use Rattle.sparse_rows.specs.SparseMaps.{row_of, AreRows, AreKnown};
+ghost use Rattle.sparse_rows.specs.SparseMaps.{row_of, AreRows, AreKnown, AreOpen};
 
 use crate::row::Row;
 use dist_rows::listed::put_where;
@@ -176,7 +176,7 @@ impl SparseRows {
         ensures more { (p q : ℕ) → knows (row_of self.old.rows.items p) q ≡ true → knows (row_of self.new.rows.items p) q ≡ true }
         ensures known { OnOk result (i ≢ j → knows (row_of self.new.rows.items j) i ≡ true) }
     {
-        if i != j {
+        if i != j && !self.row(i).is_open(j) {
             self.know(j, i)?;
         }
         Ok(())
@@ -250,12 +250,28 @@ impl SparseRows {
         self.rows[i as usize].lower_at(at, j, cell);
     }
 
-    // Whether there is a cell between two places in either direction.
-    fn touches(&self, i: u32, n: u32) -> bool
-        requires { (i < self.now.size) × (n < self.now.size) }
-        ensures { result ≡ are_neighbours (cells_of self.now.rows.items) i n }
+    // Whether there is a cell in either direction between i and the place of an entry of its row.
+    fn touches(&self, i: u32, at: usize) -> bool
+        requires within { i < self.now.size }
+        requires entry { at < length (row_of self.now.rows.items i) }
+        ensures { result ≡ are_neighbours (cells_of self.now.rows.items) i (place_at (row_of self.now.rows.items i) at) }
     {
-        self.get(i, n).is_some() || self.get(n, i).is_some()
+        let row = self.row(i);
+        row.cell_here(at).is_some() || self.get(row.place(at), i).is_some()
+    }
+
+    // Whether all pairs of different places of a list have room.
+    fn has_room_among(&self, list: &[u32]) -> bool
+        requires within { AreWithin self.now.size list.now }
+        requires rising { AreRisingPlaces list.now }
+        ensures { result ≡ true → AreOpen self.now.rows.items list.now }
+    {
+        for n in 0..list.len() {
+            if self.count_roomless(list[n], list) > 0 {
+                return false;
+            }
+        }
+        true
     }
 }
 
@@ -303,6 +319,9 @@ impl Rows for SparseRows {
     }
 
     fn make_room_row(&mut self, i: u32, list: &[u32]) -> Result<(), OutOfMemory> {
+        if self.count_roomless(i, list) == 0 {
+            return Ok(());
+        }
         self.know_column(i, list)?;
         self.know_row(i, list)?;
         self.open_row(i, list);
@@ -310,6 +329,9 @@ impl Rows for SparseRows {
     }
 
     fn make_room_among(&mut self, list: &[u32]) -> Result<(), OutOfMemory> {
+        if self.has_room_among(list) {
+            return Ok(());
+        }
         self.know_among(list)?;
         self.open_among(list);
         Ok(())
@@ -345,7 +367,7 @@ impl Rows for SparseRows {
         let row = self.row(i);
         for at in start(row, after)..row.len() {
             let n = row.place(at);
-            if self.touches(i, n) {
+            if self.touches(i, at) {
                 return Some(n);
             }
         }
@@ -360,7 +382,7 @@ impl Rows for SparseRows {
             if count == list.len() {
                 return Listed { count, end: n };
             }
-            count = put_where(list, count, n, self.touches(i, n));
+            count = put_where(list, count, n, self.touches(i, at));
         }
         Listed {
             count,

@@ -33,9 +33,7 @@ pub touches-requires : goal.touches-requires
 touches-requires c =
     let rows = c.args.self.now.rows.items in
     let len : length c.row-row.result.now ≡ length (row_of rows c.args.i) = ap (λ (es : List Entry). length es) c.row-row.ensures.value in
-    let there : c.place-n.result ≡ place_at (row_of rows c.args.i) c.loop-at.at = c.place-n.ensures ∙ ap (λ (es : List Entry). place_at es c.loop-at.at) c.row-row.ensures.value in
-    let low = place_within _ rows c.args.i c.loop-at.at c.args.self.now.kept (omega (arith, len)) in
-    (c.requires, omega (arith, there, low))
+    record { within = c.requires; entry = omega (arith, len) }
 
 pub loop-at-preserved : goal.loop-at-preserved
 loop-at-preserved c =
@@ -49,7 +47,7 @@ loop-at-preserved c =
       count = c.put_where-count.ensures.count;
       listed = λ b sought. subst (λ (xs : List ℕ). IsListing (are_neighbours (cells_of rows) c.args.i) c.args.from b xs) (sym c.put_where-count.ensures.places)
           (listing_next _ rows c.args.i c.args.from c.seek-at.result c.loop-at.at c.place-n.result b c.touches.result (take c.loop-at.count c.loop-at.list) c.args.self.now.kept start low
-          (omega (arith, len)) there c.touches.ensures c.loop-at.invariant.listed sought);
+          (omega (arith, len)) there (c.touches.ensures ∙ ap (are_neighbours (cells_of rows) c.args.i) (sym there)) c.loop-at.invariant.listed sought);
     }
 
 pub returns-clause-listed : goal.returns-clause-listed
