@@ -1,81 +1,59 @@
--- The lines before a line feed are the same whatever follows it, and a script that ends among them is read without the others.
-use Rattle.std.proofs.Common.{◌≡◌, ℕ, ◌+◌, ◌<◌, ◌==◌, true, false, cond, List, [], ◌∷◌, ◌++◌, length, refl, sym, ap, ◌∙◌, arith, Result, Ok}
-use Rattle.std.specs.List.{onto_first}
-use Rattle.std.proofs.lemmas.List.{append-nil}
+-- A script that ends among lines that end in a line feed is read without what follows them.
+use Rattle.std.proofs.Common.{◌≡◌, ℕ, zero, suc, ◌+◌, ◌≤◌, inl, inr, List, [], ◌∷◌, ◌++◌, length, Result, Ok, refl, sym, ap, subst, ◌∙◌, arith, length-append}
+use Rattle.std.proofs.lemmas.List.{append_assoc, append-nil}
 use Rattle.stn_model.specs.Net.{Net}
-use Rattle.net_text.specs.Lines.{Sized, parts, lines, lines_of, line_of}
 use Rattle.net_text.specs.declared.cause.TextError.{TextError}
+use Rattle.net_text.specs.Lines.{line_of, lines, EndsInFeed}
+use Rattle.net_text.proofs.UsedLines.{cut, left_fed, lines_cut}
 use Rattle.script_text.specs.declared.read.ScriptRead.{ScriptRead}
 use Rattle.script_text.specs.Scripts.{Reading, Step, beginning, line_does, conclude, read_from, script_of}
 use Rattle.script_text.specs.Scripts.Step.{Goes, Ends, Fails}
+use Rattle.script_text.specs.Laws.{DoneEndsTheText}
 
--- the parts of a text, each with a line feed after it
-abbrev pub fed : List (List ℕ) → List Sized
-fed [] = []
-fed (p ∷ ps) = record { text = line_of p; size = length p + 1 } ∷ fed ps
+along : (d : Step) (number n k : ℕ) (f g : Reading → Result ScriptRead TextError) (r : ScriptRead) → ((t : Reading) → f t ≡ Ok r → g t ≡ Ok r)
+    → conclude d number n k f ≡ Ok r → conclude d number n k g ≡ Ok r
+along (Goes t) number n k f g r h e = h t e
+along (Ends cs) number n k f g r h e = e
+along (Fails c) number n k f g r h e = cc
 
-onto_first-append : (b : ℕ) (ps qs : List (List ℕ)) → 0 < length ps → onto_first b (ps ++ qs) ≡ onto_first b ps ++ qs
-onto_first-append b [] qs h = absurd (omega arith)
-onto_first-append b (p ∷ ps) qs h = refl
+-- no script stands in no bytes
+nothing_read : (net : Net) (first : ℕ) (s : Reading) (n u : ℕ) (left : List ℕ) (r : ScriptRead) → left ≡ []
+    → read_from net s first n u (lines (left ++ [])) ≡ Ok r → ⊥
+nothing_read net first s n u left r none e =
+    let at_end = sym (ap (λ (bs : List ℕ). read_from net s first n u (lines (bs ++ []))) none) ∙ e in cc
 
-some_part : (bs : List ℕ) → 0 < length (parts bs)
-some_part [] = omega arith
-some_part (b ∷ bs) =
-    elim (b == 10) as (λ t. 0 < length (cond t ([] ∷ parts bs) (onto_first b (parts bs)))) [
-      | true ↦ omega arith
-      | false ↦ some_onto b (parts bs)
-    ]
-  where
-    some_onto : (b : ℕ) (ps : List (List ℕ)) → 0 < length (onto_first b ps)
-    some_onto b [] = omega arith
-    some_onto b (p ∷ ps) = omega arith
+-- A SCRIPT'S END. The bytes end in a line feed, so they are cut at their first line feed into a line and the bytes after it, and so is the
+-- text, whatever follows. If the line ends the script, nothing else is looked at. If the script goes on, the bytes after the line are not
+-- empty, since a script stands there; so they end in a line feed as well, and the same holds of them.
+reads_on : (net : Net) (first fuel : ℕ) (front other : List ℕ) (s : Reading) (n u : ℕ) (r : ScriptRead) → length front ≤ fuel → EndsInFeed front
+    → read_from net s first n u (lines (front ++ [])) ≡ Ok r → read_from net s first n u (lines (front ++ other)) ≡ Ok r
+reads_on net first zero [] other s n u r few fed e = absurd fed
+reads_on net first zero (b ∷ bs) other s n u r few fed e = absurd (omega arith)
+reads_on net first (suc fuel) front other s n u r few fed e =
+    let c = cut front fed in
+    let k : ℕ = u + (length c.line + 1) in
+    let long : length front ≡ length c.line + length (10 ∷ c.left) = ap length c.is ∙ length-append c.line (10 ∷ c.left) in
+    let both : EndsInFeed (c.line ++ 10 ∷ c.left) = subst EndsInFeed c.is fed in
+    ap (read_from net s first n u) (lines_cut front c other)
+    ∙ along (line_does net s (line_of c.line)) (first + n) (n + 1) k (λ t. read_from net t first (n + 1) k (lines (c.left ++ [])))
+    (λ t. read_from net t first (n + 1) k (lines (c.left ++ other))) r
+    (λ t q. elim (left_fed c.line c.left both) [
+      | inl none ↦ absurd (nothing_read net first t (n + 1) k c.left r none q)
+      | inr more ↦ reads_on net first fuel c.left other t (n + 1) k r (omega arith) more q
+    ])
+    (sym (ap (read_from net s first n u) (lines_cut front c [])) ∙ e)
 
-parts-append : (text more : List ℕ) → parts (text ++ 10 ∷ more) ≡ parts text ++ parts more
-parts-append [] more = refl
-parts-append (b ∷ bs) more =
-    let rest = parts-append bs more in
-    elim (b == 10) as (λ t. cond t ([] ∷ parts (bs ++ 10 ∷ more)) (onto_first b (parts (bs ++ 10 ∷ more)))
-    ≡ cond t ([] ∷ parts bs) (onto_first b (parts bs)) ++ parts more) [
-      | true ↦ ap (λ (ps : List (List ℕ)). [] ∷ ps) rest
-      | false ↦ ap (onto_first b) rest ∙ onto_first-append b (parts bs) (parts more) (some_part bs)
-    ]
+-- where a text that ends in a line feed is read, what follows it is not looked at
+pub fed_alike : (net : Net) (first : ℕ) (text other : List ℕ) (r : ScriptRead) → EndsInFeed text → script_of net first text ≡ Ok r
+    → script_of net first (text ++ other) ≡ Ok r
+fed_alike net first text other r fed e =
+    reads_on net first (length text) text other (beginning net) 0 0 r (omega arith) fed (ap (script_of net first) (append-nil text) ∙ e)
 
-lines_of-more : (p : List ℕ) (qs : List (List ℕ)) → 0 < length qs → lines_of (p ∷ qs) ≡ record { text = line_of p; size = length p + 1 } ∷ lines_of qs
-lines_of-more p [] h = absurd (omega arith)
-lines_of-more p (q ∷ qs) h = refl
+fed_end : (text : List ℕ) → EndsInFeed (text ++ 10 ∷ [])
+fed_end [] = refl
+fed_end (b ∷ []) = refl
+fed_end (b ∷ c ∷ bs) = fed_end (c ∷ bs)
 
-some_after : (ps qs : List (List ℕ)) → 0 < length qs → 0 < length (ps ++ qs)
-some_after [] qs h = h
-some_after (p ∷ ps) qs h = omega arith
-
-lines_of-append : (ps qs : List (List ℕ)) → 0 < length qs → lines_of (ps ++ qs) ≡ fed ps ++ lines_of qs
-lines_of-append [] qs h = refl
-lines_of-append (p ∷ ps) qs h =
-    lines_of-more p (ps ++ qs) (some_after ps qs h)
-    ∙ ap (λ (ls : List Sized). record { text = line_of p; size = length p + 1 } ∷ ls) (lines_of-append ps qs h)
-
-lines_fed : (text more : List ℕ) → lines (text ++ 10 ∷ more) ≡ fed (parts text) ++ lines more
-lines_fed text more = ap lines_of (parts-append text more) ∙ lines_of-append (parts text) (parts more) (some_part more)
-
-concluded_alike : (step : Step) (number count used : ℕ) (k m : Reading → Result ScriptRead TextError) (x : ScriptRead)
-    → ((t : Reading) → k t ≡ Ok x → m t ≡ Ok x) → conclude step number count used k ≡ Ok x → conclude step number count used m ≡ Ok x
-concluded_alike (Goes t) number count used k m x h e = h t e
-concluded_alike (Ends cs) number count used k m x h e = e
-concluded_alike (Fails c) number count used k m x h e = cc
-
-read_from-append : (net : Net) (r : Reading) (first count used : ℕ) (ls more : List Sized) (x : ScriptRead)
-    → read_from net r first count used ls ≡ Ok x → read_from net r first count used (ls ++ more) ≡ Ok x
-read_from-append net r first count used [] more x e = cc
-read_from-append net r first count used (l ∷ ls) more x e =
-    concluded_alike (line_does net r l.text) (first + count) (count + 1) (used + l.size)
-    (λ t. read_from net t first (count + 1) (used + l.size) ls)
-    (λ t. read_from net t first (count + 1) (used + l.size) (ls ++ more)) x
-    (λ t h. read_from-append net t first (count + 1) (used + l.size) ls more x h) e
-
-pub done_ends : (net : Net) (first : ℕ) (text more : List ℕ) (x : ScriptRead) → script_of net first (text ++ 10 ∷ []) ≡ Ok x
-    → script_of net first (text ++ 10 ∷ more) ≡ Ok x
-done_ends net first text more x e =
-    let alone : lines (text ++ 10 ∷ []) ≡ fed (parts text) = lines_fed text [] ∙ append-nil (fed (parts text)) in
-    let all = lines_fed text more in
-    ap (read_from net (beginning net) first 0 0) all
-    ∙ read_from-append net (beginning net) first 0 0 (fed (parts text)) (lines more) x (ap (read_from net (beginning net) first 0 0) (sym alone) ∙ e)
+pub done_ends : DoneEndsTheText
+done_ends net first text more r e =
+    ap (script_of net first) (sym (append_assoc text (10 ∷ []) more)) ∙ fed_alike net first (text ++ 10 ∷ []) more r (fed_end text) e

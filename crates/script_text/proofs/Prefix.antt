@@ -1,16 +1,16 @@
 -- The prefix of a text that was read is a script by itself.
-use Rattle.std.proofs.Common.{◌≡◌, ℕ, zero, suc, ◌+◌, ◌≤◌, ◌==◌, Bool, true, false, cond, ◌⊎◌, inl, inr, List, [], ◌∷◌, ◌++◌, length, take, Result, Ok, Err, refl, sym, ◌∙◌, ap, subst, arith, length-append}
-use Rattle.std.proofs.lemmas.List.{take_all, append_assoc, append-nil, length-take-le}
+use Rattle.std.proofs.Common.{◌≡◌, ℕ, zero, suc, ◌+◌, ◌≤◌, ◌==◌, true, false, cond, inl, inr, List, [], ◌∷◌, ◌++◌, length, take, Result, Ok, sym, ◌∙◌, ap, arith, length-append}
+use Rattle.std.proofs.lemmas.List.{take_all}
 use Rattle.stn_model.specs.Net.{Net}
 use Rattle.net_text.specs.declared.cause.TextError.{TextError}
-use Rattle.net_text.specs.Lines.{parts, line_of, lines_of, lines, Sized, EndsInFeed}
+use Rattle.net_text.specs.Lines.{parts, line_of, lines_of, lines, Sized}
 use Rattle.net_text.proofs.UsedLines.{Cut}
 use Rattle.net_text.proofs.ReadPrefix.{cut_or_whole, taken_after, lines_fed}
 use Rattle.script_text.specs.declared.read.ScriptRead.{ScriptRead}
 use Rattle.script_text.specs.Scripts.{Reading, Step, beginning, line_does, conclude, read_from, script_of}
 use Rattle.script_text.specs.Scripts.Step.{Goes, Ends, Fails}
-use Rattle.script_text.specs.Laws.{IsPrefixRead, PrefixIsRead}
-use Rattle.script_text.proofs.Feeds.{done_ends}
+use Rattle.script_text.specs.Laws.{PrefixIsRead}
+use Rattle.script_text.proofs.Feeds.{fed_alike}
 
 -- so many bytes are read by themselves, and have so many lines
 record Prefix (net : Net) (first : ℕ) (bytes : List ℕ) (s : Reading) (n u : ℕ) (r : ScriptRead) : Type 0 where
@@ -109,26 +109,6 @@ prefix_from net first (suc fuel) bytes s n u r few e =
       | inr c ↦
           cut_read net first bytes c s n u r (λ t k q. prefix_from net first fuel c.left t (n + 1) k r (left_shorter bytes c fuel few) q) e
     ]
-
--- what ends in a line feed, without it
-record Front (bytes : List ℕ) : Type 0 where
-  text : List ℕ
-  is : bytes ≡ text ++ 10 ∷ []
-
-fed_front : (bytes : List ℕ) → EndsInFeed bytes → Front bytes
-fed_front [] fed = absurd fed
-fed_front (b ∷ []) fed = record { text = []; is = ap (λ (x : ℕ). x ∷ []) fed }
-fed_front (b ∷ c ∷ bs) fed =
-    let rest = fed_front (c ∷ bs) fed in record { text = b ∷ rest.text; is = ap (λ (xs : List ℕ). b ∷ xs) rest.is }
-
--- where a text that ends in a line feed is read, what follows it is not looked at
-fed_alike : (net : Net) (first : ℕ) (text other : List ℕ) (r : ScriptRead) → EndsInFeed text → script_of net first text ≡ Ok r
-    → script_of net first (text ++ other) ≡ Ok r
-fed_alike net first text other r fed e =
-    let f = fed_front text fed in
-    ap (λ (bs : List ℕ). script_of net first (bs ++ other)) f.is
-    ∙ ap (script_of net first) (append_assoc f.text (10 ∷ []) other)
-    ∙ done_ends net first f.text other r (ap (script_of net first) (sym f.is) ∙ e)
 
 pub prefix_is_read : PrefixIsRead
 prefix_is_read net first bytes r e =

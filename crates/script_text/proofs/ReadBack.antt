@@ -1,5 +1,5 @@
 -- A script that is written out is read as its commands.
-use Rattle.std.proofs.Common.{◌≡◌, ◌≢◌, ℕ, suc, ◌+◌, ◌*◌, ◌<◌, ◌≤◌, ◌==◌, ℤ, pos, neg_ℤ, nat_abs, Bool, true, false, not, ◌&&◌, nat_le, nat_lt, is_some, cond, codes, List, [], ◌∷◌, ◌++◌, length, Option, Some, None, Result, Ok, Err, refl, sym, ap, subst, ◌∙◌, arith, length-append, if◌then◌else◌}
+use Rattle.std.proofs.Common.{◌≡◌, ◌≢◌, ℕ, ◌+◌, ◌*◌, ◌<◌, ◌≤◌, ◌==◌, ℤ, pos, neg_ℤ, Bool, true, false, not, ◌&&◌, nat_le, is_some, cond, codes, List, [], ◌∷◌, ◌++◌, length, Some, None, Ok, Err, refl, sym, ap, subst, ◌∙◌, arith, length-append}
 use Rattle.std.specs.Prelude.{int_lt}
 use Rattle.std.specs.Fmt.{decimal, signed_decimal}
 use Rattle.std.specs.List.{AllByRecursion, flat_map}
@@ -8,7 +8,7 @@ use Rattle.std.proofs.lemmas.List.{append_assoc, append-nil}
 use Rattle.stn_model.specs.declared.ids.Constraint.{Constraint}
 use Rattle.stn_model.specs.declared.ids.PointId.{PointId}
 use Rattle.stn_model.specs.Limits.{most_arcs, greatest_bound}
-use Rattle.stn_model.specs.Net.{Net, find_point, point_count, point_name_of}
+use Rattle.stn_model.specs.Net.{Net, point_count, point_name_of}
 use Rattle.stn_model.specs.Refusals.{is_beyond}
 use Rattle.stn_model.specs.Valid.{IsNetwork, IsArcWithin}
 use Rattle.net_text.specs.declared.cause.TextCause.{TextCause}
@@ -16,7 +16,6 @@ use Rattle.net_text.specs.declared.cause.TextCause.TheVariants as cause
 use Rattle.net_text.specs.Fields.{fields}
 use Rattle.net_text.specs.Lines.{lines, is_skipped, is_text}
 use Rattle.net_text.specs.Networks.{arc_between}
-use Rattle.net_text.specs.Numbers.{number_of}
 use Rattle.net_text.specs.Plain.{spaced, line, arc_line}
 use Rattle.net_text.proofs.FieldsOfLines.{IsField, fields_spaced, text_line}
 use Rattle.net_text.proofs.LinesRead.{lines_feed, length-line}
@@ -24,17 +23,15 @@ use Rattle.net_text.proofs.NetworksBack.{point_back, point_name_is_field, not_be
 use Rattle.net_text.proofs.NumbersBack.{number_back, short_is_field, bound_short}
 use Rattle.script_text.specs.declared.command.Command.{Command}
 use Rattle.script_text.specs.declared.command.Command.TheVariants as command
-use Rattle.script_text.specs.declared.line.Line.{Line}
 use Rattle.script_text.specs.declared.line.Line.TheVariants as asked
 use Rattle.script_text.specs.declared.phase.Phase.{Phase}
 use Rattle.script_text.specs.declared.phase.Phase.TheVariants.{Joint, Decoupled, Executing}
-use Rattle.script_text.specs.declared.read.ScriptRead.{ScriptRead}
 use Rattle.script_text.specs.Laws.{WrittenScriptIsRead}
-use Rattle.script_text.specs.Lines.{and_then, number_in, arc_number, arc_number_in, point_in, not_z, free_point_in, arc_allowed, arc_in, line_of}
+use Rattle.script_text.specs.Lines.{and_then, arc_numbers, number_in, arc_number, arc_number_in, point_in, not_z, free_point_in, arc_allowed, arc_in, line_of}
 use Rattle.script_text.specs.Phases.{is_decoupled, is_executing}
 use Rattle.script_text.specs.Written.{command_lines, written, lines_of_command, script_lines}
-use Rattle.script_text.specs.Possible.{IsTime, IsCommandOf, IsScriptOf, command_arcs, script_arcs, may_stand, phase_after, stand_in_order}
-use Rattle.script_text.specs.Scripts.{Reading, Step, beginning, with_command, unless, is_full, does, does_what, line_does, conclude, read_from, script_of}
+use Rattle.script_text.specs.Possible.{IsTime, IsCommandOf, command_arcs, script_arcs, may_stand, phase_after, stand_in_order}
+use Rattle.script_text.specs.Scripts.{Reading, Step, unless, does, does_what, line_does, conclude, read_from}
 use Rattle.script_text.specs.Scripts.Step.{Goes, Ends}
 
 -- a written line does what its fields ask for
@@ -97,9 +94,9 @@ free_read : (net : Net) → IsNetwork net → (p : PointId) → p.0 < point_coun
 free_read net valid p lt free =
     ap (λ x. and_then x not_z) (name_read net valid p lt) ∙ ap (λ b. cond b (Err cause.ReferencePoint) (Ok p)) (ne_eqb p.0 0 (omega arith))
 
-arc_number_read : (n : ℕ) → n < 4294967296 → arc_number_in (decimal n) ≡ Ok n
+arc_number_read : (n : ℕ) → n < arc_numbers → arc_number_in (decimal n) ≡ Ok n
 arc_number_read n lt =
-    ap (λ x. and_then x arc_number) (number_read (pos n) (omega arith)) ∙ ap (λ b. cond b (Ok n) (Err cause.NumberBad)) (lt-ltb n 4294967296 lt)
+    ap (λ x. and_then x arc_number) (number_read (pos n) (omega arith)) ∙ ap (λ b. cond b (Ok n) (Err cause.NumberBad)) (lt-ltb n arc_numbers lt)
 
 arc_read : (net : Net) → IsNetwork net → (a : Constraint) → IsArcWithin (point_count net) a
     → arc_in net (point_name_of net a.from.0) (point_name_of net a.to.0) (signed_decimal a.bound) ≡ Ok a
@@ -261,7 +258,7 @@ prove_read net first valid cs p k from to starts ends differ =
     ∙ ap (λ x. does_what r (and_then x (λ j. cond (from.0 == j.0) (Err cause.SamePoint) (Ok (asked.Prove from j))))) (name_read net valid to ends)
     ∙ ap (λ t. does_what r (cond t (Err cause.SamePoint) (Ok (asked.Prove from to)))) (ne_eqb from.0 to.0 differ))
 
-withdraw_read : (net : Net) (first : ℕ) (cs : List Command) (p : Phase) (k arc : ℕ) → arc < 4294967296 → not (is_decoupled p) ≡ true
+withdraw_read : (net : Net) (first : ℕ) (cs : List Command) (p : Phase) (k arc : ℕ) → arc < arc_numbers → not (is_decoupled p) ≡ true
     → Brings net first (command_lines net (command.Withdraw arc)) 1 (outside cs p k) (outside (cs ++ command.Withdraw arc ∷ []) p (k + 0))
 withdraw_read net first cs p k arc small stands =
     simply net first cs p p k (command.Withdraw arc) (codes "withdraw") (decimal arc ∷ []) (record { filled = refl; solid = refl })

@@ -10,12 +10,12 @@ use Rattle.net_text.specs.declared.cause.TextCause.TheVariants as cause
 use Rattle.net_text.specs.Fields.{fields}
 use Rattle.net_text.specs.Lines.{line_of, lines_of, lines, Sized, EndsInFeed, is_skipped, is_text}
 use Rattle.net_text.proofs.Parts.{lines_before}
-use Rattle.net_text.proofs.UsedLines.{Cut, cut, left_fed, lines_cut}
+use Rattle.net_text.proofs.UsedLines.{cut, left_fed, lines_cut}
 use Rattle.script_text.specs.declared.line.Line.TheVariants.{Nothing}
 use Rattle.script_text.specs.declared.read.ScriptRead.{ScriptRead}
 use Rattle.script_text.specs.Laws.{moved, SkippedLineMoves}
 use Rattle.script_text.specs.Lines.{line_of as asked}
-use Rattle.script_text.specs.Scripts.{Reading, Step, beginning, does_what, line_does, missing, conclude, read_from, script_of}
+use Rattle.script_text.specs.Scripts.{Reading, Step, beginning, does_what, line_does, missing, conclude, read_from}
 use Rattle.script_text.specs.Scripts.Step.{Goes, Ends, Fails}
 
 step_moved : (d : Step) (m number n k j size : ℕ) (f g : Reading → Result ScriptRead TextError) → m ≡ number + 1 → k ≡ j + size

@@ -8,7 +8,7 @@ use Rattle.stn_model.specs.Refusals.{is_beyond}
 use Rattle.net_text.specs.declared.cause.TextCause.{TextCause}
 use Rattle.net_text.specs.declared.cause.TextCause.TheVariants as cause
 use Rattle.net_text.specs.Fields.{fields}
-use Rattle.net_text.specs.Lines.{is_skipped, is_text}
+use Rattle.net_text.specs.Lines.{is_text}
 use Rattle.net_text.specs.Networks.{arc_between}
 use Rattle.net_text.specs.Numbers.{number_of}
 use Rattle.script_text.specs.declared.command.Command.{Command}
@@ -18,7 +18,7 @@ use Rattle.script_text.specs.declared.phase.Phase.{Phase}
 use Rattle.script_text.specs.declared.words.Word.{Word}
 use Rattle.script_text.specs.declared.words.Word.TheVariants as word
 use Rattle.script_text.specs.Laws.{LinesAreTested}
-use Rattle.script_text.specs.Lines.{and_then, number_in, arc_number, arc_number_in, point_in, not_z, free_point_in, arc_allowed, arc_in, line_by_word, line_of}
+use Rattle.script_text.specs.Lines.{and_then, arc_numbers, number_in, arc_number, arc_number_in, point_in, not_z, free_point_in, arc_allowed, arc_in, line_by_word, line_of}
 use Rattle.script_text.specs.Scripts.{Reading, Step, does, does_what}
 use Rattle.script_text.specs.Tests.{first_cause, has_not, natural, is_out, judged}
 use Rattle.script_text.specs.Words.{word_of}
@@ -74,7 +74,7 @@ point_tested net f = found (find_point net f)
     found (Some p) = refl
 
 arc_number_tested : (z : ℤ) → arc_number z ≡ after_tests ((is_out z, cause.NumberBad) ∷ []) (Ok (natural z))
-arc_number_tested (pos n) = either (nat_lt n 4294967296)
+arc_number_tested (pos n) = either (nat_lt n arc_numbers)
   where
     either : (b : Bool) → cond b (Ok n) (Err cause.NumberBad) ≡ after_tests ((not b, cause.NumberBad) ∷ []) (Ok n)
     either true = refl

@@ -1,5 +1,5 @@
 -- What a line asks for is possible in the network: its points are there, and its arc may be added.
-use Rattle.std.proofs.Common.{◌≡◌, ◌≢◌, ℕ, zero, suc, ◌+◌, ◌<◌, ◌==◌, ◌&&◌, nat_le, nat_lt, ℤ, pos, negsuc, neg_ℤ, ◌∙◌, ◌≤ℤ◌, Bool, true, false, cond, List, [], ◌∷◌, length, Option, Some, None, Result, Ok, Err, IfOk, IfSome, refl, arith}
+use Rattle.std.proofs.Common.{◌≡◌, ◌≢◌, ℕ, zero, suc, ◌+◌, ◌^◌, ◌<◌, ◌==◌, ◌&&◌, nat_le, nat_lt, ℤ, pos, negsuc, neg_ℤ, ◌∙◌, ◌≤ℤ◌, Bool, true, false, cond, List, [], ◌∷◌, length, Option, Some, None, Result, Ok, Err, IfOk, IfSome, refl, arith}
 use Rattle.std.specs.List.{position}
 use Rattle.std.specs.Option.{option_map}
 use Rattle.std.specs.Str.{all_ascii_digits, bytes_eq}
@@ -11,6 +11,7 @@ use Rattle.std.proofs.lemmas.List.{length-map}
 use Rattle.std.proofs.lemmas.List.Quantifiers.{position-Some}
 use Rattle.stn_model.specs.declared.ids.PointId.{PointId}
 use Rattle.stn_model.specs.Net.{Net, find_point, point_count, point_names}
+use Rattle.stn_model.specs.Limits.{greatest_bound}
 use Rattle.stn_model.specs.Refusals.{is_beyond}
 use Rattle.stn_model.specs.Valid.{IsArcWithin}
 use Rattle.net_text.specs.declared.cause.TextCause.{TextCause}
@@ -26,7 +27,7 @@ use Rattle.script_text.specs.declared.words.Word.TheVariants as word
 use Rattle.script_text.specs.Words.{word_of}
 use Rattle.script_text.specs.Possible.{IsTime}
 use Rattle.net_text.proofs.Digits.{are_digits, digits_below}
-use Rattle.script_text.specs.Lines.{and_then, number_in, point_in, arc_number, arc_number_in, not_z, free_point_in, arc_allowed, arc_in, alone, prove_between, prove_line, choose_at, choose_line, withdraw_line, advance_line, do_line, arc_line, tighten_line, batch_arc_line, line_outside, line_inside, line_by_word, line_of, line_in}
+use Rattle.script_text.specs.Lines.{and_then, arc_numbers, number_in, point_in, arc_number, arc_number_in, not_z, free_point_in, arc_allowed, arc_in, alone, prove_between, prove_line, choose_at, choose_line, withdraw_line, advance_line, do_line, arc_line, tighten_line, batch_arc_line, line_outside, line_inside, line_by_word, line_of, line_in}
 
 and_then_is : {A B : Type 0} (P : A → Type 0) (Q : B → Type 0) (x : Result A TextCause) (next : A → Result B TextCause) → IfOk x P
     → ((a : A) → P a → IfOk (next a) Q) → IfOk (and_then x next) Q
@@ -61,7 +62,7 @@ point_in_is net field = point_of_is net (find_point net field) (find_point_is ne
 
 -- a number in a text has at most 18 digits
 abbrev pub IsShort : ℕ → Type 0
-IsShort n = n < 1000000000000000000
+IsShort n = n < 10 ^ 18
 
 magnitude_short : (ds : List ℕ) → IfSome (magnitude_of ds) IsShort
 magnitude_short ds =
@@ -99,21 +100,21 @@ number_in_is field = found (number_of field) (number_short field)
     found None h = tt
     found (Some n) h = h
 
-arc_number_is : (n : ℤ) → IfOk (arc_number n) (λ k. k < 4294967296)
+arc_number_is : (n : ℤ) → IfOk (arc_number n) (λ k. k < arc_numbers)
 arc_number_is (pos n) =
-    (elim (nat_lt n 4294967296) as (λ t. nat_lt n 4294967296 ≡ t → IfOk {E = TextCause} (cond t (Ok n) (Err cause.NumberBad)) (λ k. k < 4294967296)) [
-      | true ↦ λ e. ltb-true n 4294967296 e
+    (elim (nat_lt n arc_numbers) as (λ t. nat_lt n arc_numbers ≡ t → IfOk {E = TextCause} (cond t (Ok n) (Err cause.NumberBad)) (λ k. k < arc_numbers)) [
+      | true ↦ λ e. ltb-true n arc_numbers e
       | false ↦ λ e. tt
     ]) refl
 arc_number_is (negsuc n) = tt
 
-arc_number_in_is : (field : List ℕ) → IfOk (arc_number_in field) (λ k. k < 4294967296)
-arc_number_in_is field = and_then_is IsTime (λ k. k < 4294967296) (number_in field) arc_number (number_in_is field) (λ n h. arc_number_is n)
+arc_number_in_is : (field : List ℕ) → IfOk (arc_number_in field) (λ k. k < arc_numbers)
+arc_number_in_is field = and_then_is IsTime (λ k. k < arc_numbers) (number_in field) arc_number (number_in_is field) (λ n h. arc_number_is n)
 
-low_of : (b : ℤ) → is_beyond b ≡ false → neg_ℤ (pos 1099511627776) ≤ℤ b
+low_of : (b : ℤ) → is_beyond b ≡ false → neg_ℤ (pos greatest_bound) ≤ℤ b
 low_of b e = grind (arith, ints)
 
-high_of : (b : ℤ) → is_beyond b ≡ false → b ≤ℤ pos 1099511627776
+high_of : (b : ℤ) → is_beyond b ≡ false → b ≤ℤ pos greatest_bound
 high_of b e = grind (arith, ints)
 
 different_of : (i j : ℕ) → (i == j) ≡ false → i ≢ j
@@ -148,7 +149,7 @@ IsLineOf net inside (line.Tighten arc) = IsArcWithin (point_count net) arc
 IsLineOf net inside line.BeginBatch = inside ≡ false
 IsLineOf net inside (line.BatchArc arc) = IsArcWithin (point_count net) arc
 IsLineOf net inside line.CloseBatch = Unit {0}
-IsLineOf net inside (line.Withdraw arc) = arc < 4294967296
+IsLineOf net inside (line.Withdraw arc) = arc < arc_numbers
 IsLineOf net inside line.Decouple = inside ≡ false
 IsLineOf net inside (line.Choose point time) = (point.0 < point_count net) × (0 < point.0) × IsTime time
 IsLineOf net inside line.Execute = Unit {0}
@@ -202,7 +203,7 @@ choose_at_is net inside point time =
 withdraw_line_is : (net : Net) (inside : Bool) (fs : List (List ℕ)) → IfOk (withdraw_line fs) (IsLineOf net inside)
 withdraw_line_is net inside [] = tt
 withdraw_line_is net inside (number ∷ []) =
-    and_then_is (λ k. k < 4294967296) (IsLineOf net inside) (arc_number_in number) (λ n. Ok (line.Withdraw n)) (arc_number_in_is number) (λ n h. h)
+    and_then_is (λ k. k < arc_numbers) (IsLineOf net inside) (arc_number_in number) (λ n. Ok (line.Withdraw n)) (arc_number_in_is number) (λ n h. h)
 withdraw_line_is net inside (number ∷ next ∷ more) = tt
 
 advance_line_is : (net : Net) (inside : Bool) (fs : List (List ℕ)) → IfOk (advance_line fs) (IsLineOf net inside)

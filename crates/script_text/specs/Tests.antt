@@ -1,7 +1,7 @@
 -- The tests of each line of a script in their order, each with its cause, and what the line does where it passes them all: first_cause,
 -- field_at, number_at, point_at, arc_at, natural, has_not, is_no_number, is_out, is_no_point, are_one_point, is_z, is_inside, arcs_begun,
 -- tests, does_then, judged, judged_line.
-use Rattle.std.specs.Prelude.{ℕ, ℤ, pos, negsuc, ◌+◌, ◌==◌, Bool, true, false, not, nat_lt, List, [], ◌∷◌, ◌++◌, length, slice_index_or, is_some, Option, Some, None, if◌then◌else◌}
+use Rattle.std.specs.Prelude.{ℕ, ℤ, pos, negsuc, ◌+◌, ◌==◌, Bool, true, not, nat_lt, List, [], ◌∷◌, ◌++◌, length, slice_index_or, is_some, Option, Some, None, if◌then◌else◌}
 use Rattle.stn_model.specs.declared.ids.Constraint.{Constraint}
 use Rattle.stn_model.specs.declared.ids.PointId.{PointId}
 use Rattle.stn_model.specs.Net.{Net, find_point}
@@ -11,9 +11,7 @@ use Rattle.net_text.specs.declared.cause.TextCause.TheVariants as cause
 use Rattle.net_text.specs.Lines.{is_text}
 use Rattle.net_text.specs.Networks.{arc_between}
 use Rattle.net_text.specs.Numbers.{number_of}
-use Rattle.script_text.specs.declared.command.Command.{Command}
 use Rattle.script_text.specs.declared.command.Command.TheVariants as command
-use Rattle.script_text.specs.declared.phase.Phase.{Phase}
 use Rattle.script_text.specs.declared.phase.Phase.TheVariants.{Decoupled, Executing}
 use Rattle.script_text.specs.declared.words.Word.{Word}
 use Rattle.script_text.specs.declared.words.Word.TheVariants as word

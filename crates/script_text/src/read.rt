@@ -54,8 +54,10 @@ pub struct ScriptRead {
 ///
 /// # Errors
 ///
-/// - `At`: no script stands at the front. It names the first line that fails, and the first test that it fails. Where the
-///   `done` line is missing, it is the line after the last one.
+/// - `At`: no script stands at the front. It names the first line that fails, and the first test that it fails, in this order: `NotText`,
+///   `BatchOpen`, `UnknownWord`, `FieldCount`, `NumberBad`, `NameUnknown`, `ReferencePoint`, `SamePoint`, `BoundRange`, `AfterDecouple` or
+///   `BeforeDecouple`, `AfterExecute` or `BeforeExecute`, `EmptyBatch`, `TooManyArcs`. Where the `done` line is missing, it names the line
+///   after the last one, with `BatchOpen` where a batch is begun, and else `NoDone`.
 /// - `OutOfMemory`: memory ran out.
 pub fn read_script(
     alloc: Global,
