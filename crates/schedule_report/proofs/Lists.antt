@@ -4,8 +4,8 @@ use Rattle.std.specs.List.{flat_map, range_with_len}
 use Rattle.std.proofs.lemmas.List.{append_assoc}
 
 -- the line of the next number is written, and those of the numbers after it are left
-pub line_added : (f : ℕ → List ℕ) (k n : ℕ) (whole now new : List ℕ) → k < n → now ++ flat_map f (range_with_len k (n - k)) ≡ whole → new ≡ now ++ f k
-    → new ++ flat_map f (range_with_len (k + 1) (n - (k + 1))) ≡ whole
+pub line_added : (f : ℕ → List ℕ) (k n : ℕ) (whole now new : List ℕ) → k < n
+    → now ++ flat_map f (range_with_len k (n - k)) ≡ whole → new ≡ now ++ f k → new ++ flat_map f (range_with_len (k + 1) (n - (k + 1))) ≡ whole
 line_added f k n whole now new lt before step =
     let rest : List ℕ = flat_map f (range_with_len (k + 1) (n - (k + 1))) in
     let left : n - k ≡ suc (n - (k + 1)) = omega arith in

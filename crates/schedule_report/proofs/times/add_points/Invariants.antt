@@ -1,5 +1,5 @@
 -- The lines so far, and those of the points that are left, are the lines of all.
-use Rattle.std.proofs.Common.{◌≡◌, ◌+◌, ◌-◌, ◌≤◌, ◌++◌, length}
+use Rattle.std.proofs.Common.{◌≡◌, ◌-◌, ◌++◌, length}
 use Rattle.std.specs.List.{flat_map, range_with_len}
 use Rattle.stn_model.specs.Net.{point_count}
 use Rattle.stn_model.specs.Schedules.{time_at}
