@@ -42,15 +42,18 @@ rising_put : (xs : List ℕ) (n : ℕ) (w : Bool) → AreRisingPlaces xs → Are
 rising_put [] n true rising within m k less l = absurd (omega (arith, less, l))
 rising_put [] n false rising within m k less l = absurd (omega (arith, l))
 rising_put (x ∷ xs) n w rising within m zero less l = absurd (omega (arith, less))
-rising_put (x ∷ xs) n w rising within zero (suc k) less l = first xs w k (λ j i. rising 0 (suc j) (omega arith) (omega (arith, i))) (within 0 (omega arith)) (omega (arith, l)) where
-  first : (ys : List ℕ) (v : Bool) (j : ℕ) → ((i : ℕ) → i < length ys → x < slice_index_or ys i 0) → x < n → j < length (ys ++ (if v then n ∷ [] else [])) → x < slice_index_or (ys ++ (if v then n ∷ [] else [])) j 0
-  first [] true zero up lt i = lt
-  first [] true (suc j) up lt i = absurd (omega (arith, i))
-  first [] false j up lt i = absurd (omega (arith, i))
-  first (y ∷ ys) v zero up lt i = up 0 (omega arith)
-  first (y ∷ ys) v (suc j) up lt i = first ys v j (λ h g. up (suc h) (omega (arith, g))) lt (omega (arith, i))
+rising_put (x ∷ xs) n w rising within zero (suc k) less l = first xs w k (λ j i. rising 0 (suc j) (omega arith) (omega (arith, i))) (within 0 (omega arith))
+    (omega (arith, l)) where
+      first : (ys : List ℕ) (v : Bool) (j : ℕ) → ((i : ℕ) → i < length ys → x < slice_index_or ys i 0) → x < n → j < length (ys ++ (if v then n ∷ [] else []))
+          → x < slice_index_or (ys ++ (if v then n ∷ [] else [])) j 0
+      first [] true zero up lt i = lt
+      first [] true (suc j) up lt i = absurd (omega (arith, i))
+      first [] false j up lt i = absurd (omega (arith, i))
+      first (y ∷ ys) v zero up lt i = up 0 (omega arith)
+      first (y ∷ ys) v (suc j) up lt i = first ys v j (λ h g. up (suc h) (omega (arith, g))) lt (omega (arith, i))
 rising_put (x ∷ xs) n w rising within (suc m) (suc k) less l =
-    rising_put xs n w (λ i j a b. rising (suc i) (suc j) (omega (arith, a)) (omega (arith, b))) (λ i a. within (suc i) (omega (arith, a))) m k (omega (arith, less)) (omega (arith, l))
+    rising_put xs n w (λ i j a b. rising (suc i) (suc j) (omega (arith, a)) (omega (arith, b))) (λ i a. within (suc i) (omega (arith, a))) m k
+    (omega (arith, less)) (omega (arith, l))
 
 listed_below : (a b p : ℕ) (x t : Bool) → x ≡ (nat_le a p && nat_lt p b && t) → x ≡ true → p < b
 listed_below a b p x true is h = grind (arith, nat_tests)
@@ -60,6 +63,7 @@ listed_below a b p x false is h = grind (arith, nat_tests)
 pub listing_more : (test : ℕ → Bool) (a b n c : ℕ) (w : Bool) (xs : List ℕ) → IsListing test a b xs → a ≤ n → b ≤ n → n < c → test n ≡ w
     → ((p : ℕ) → b ≤ p → p < c → p ≢ n → test p ≡ false) → IsListing test a c (xs ++ (if w then n ∷ [] else []))
 listing_more test a b n c w xs was from le lt here gap = record {
-  rising = rising_put xs n w was.rising (λ m l. (let below = within_from_lists xs b (λ p h. listed_below a b p (lists xs p) (test p) (was.each p) h) m l in omega (arith, below, le)));
+  rising = rising_put xs n w was.rising (λ m l. (let below = within_from_lists xs b (λ p h. listed_below a b p (lists xs p) (test p) (was.each p) h) m l in
+      omega (arith, below, le)));
   each = λ p. lists_put xs n w p ∙ more p a b n c (lists xs p) w (test p) (was.each p) from le lt (λ e. ap test e ∙ here) (gap p);
 }

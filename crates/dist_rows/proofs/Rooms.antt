@@ -25,13 +25,15 @@ row_more i js n f g lt is p q =
     row_alike i (drop (n + 1) js) g (roomed i (slice_index_or js n 0) f) is p q ∙ sym (ap (λ (xs : List ℕ). row_roomed i xs f p q) e)
 
 pub all_more : (is list : List ℕ) (n : ℕ) (f g : ℕ → ℕ → Bool) → n < length is
-    → ((p q : ℕ) → g p q ≡ row_roomed (slice_index_or is n 0) list f p q) → (p q : ℕ) → all_roomed (drop (n + 1) is) list g p q ≡ all_roomed (drop n is) list f p q
+    → ((p q : ℕ) → g p q ≡ row_roomed (slice_index_or is n 0) list f p q) → (p q : ℕ)
+    → all_roomed (drop (n + 1) is) list g p q ≡ all_roomed (drop n is) list f p q
 all_more is list n f g lt h p q =
     let e : drop n is ≡ slice_index_or is n 0 ∷ drop (n + 1) is = drop_more is n 0 lt in
     all_alike (drop (n + 1) is) list g (row_roomed (slice_index_or is n 0) list f) h p q ∙ sym (ap (λ (xs : List ℕ). all_roomed xs list f p q) e)
 
 -- one place more, for a pair
-row_step : (i j p q : ℕ) (l b : Bool) → ((not (p == q) && (p == i) && l) || (if j == i then b else (((p == i) && (q == j)) || b))) ≡ ((not (p == q) && (p == i) && ((q == j) || l)) || b)
+row_step : (i j p q : ℕ) (l b : Bool) → ((not (p == q) && (p == i) && l) || (if j == i then b else (((p == i) && (q == j)) || b)))
+    ≡ ((not (p == q) && (p == i) && ((q == j) || l)) || b)
 row_step i j p q true true = grind (arith, nat_tests)
 row_step i j p q true false = grind (arith, nat_tests)
 row_step i j p q false true = grind (arith, nat_tests)
@@ -77,7 +79,8 @@ pub all_full : (n : ℕ) (list : List ℕ) → AreWithin n list → (p q : ℕ) 
 all_full n list within p q =
     elim (lists list p) as (λ a. lists list p ≡ a → in_room n p q ≡ ((not (p == q) && a && lists list q) || in_room n p q)) [
       | true ↦ λ g. elim (lists list q) as (λ b. lists list q ≡ b → in_room n p q ≡ ((not (p == q) && true && b) || in_room n p q)) [
-        | true ↦ λ h. (let first : p < n = below_from_lists n list p within g in let below : q < n = below_from_lists n list q within h in grind (arith, nat_tests))
+        | true ↦ λ h. (let first : p < n = below_from_lists n list p within g in let below : q < n = below_from_lists n list q within h in
+            grind (arith, nat_tests))
         | false ↦ λ h. grind (arith, nat_tests)
       ] refl
       | false ↦ λ g. grind (arith, nat_tests)

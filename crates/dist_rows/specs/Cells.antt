@@ -1,5 +1,6 @@
 -- What rows of cells mean: which cell is written, which stay, and who are neighbours. A map of cells is a function of pairs.
-use Rattle.std.specs.Prelude.{ℕ, ◌<◌, ◌≤◌, ◌^◌, ℤ, pos, ◌+ℤ◌, List, [], ◌∷◌, slice_index_or, length, nat_abs, int_lt, Bool, true, ◌&&◌, ◌||◌, not, ◌==◌, Option, Some, None, is_some, nat_le, if◌then◌else◌, IfSome}
+use Rattle.std.specs.Prelude.{ℕ, ◌<◌, ◌≤◌, ◌^◌, ℤ, pos, ◌+ℤ◌, List, [], ◌∷◌, slice_index_or, length, nat_abs, int_lt, Bool, true, ◌&&◌, ◌||◌, not, ◌==◌}
+use Rattle.std.specs.Prelude.{Option, Some, None, is_some, nat_le, if◌then◌else◌, IfSome}
 use Rattle.dist_rows.specs.declared.cell.Cell.{Cell}
 use Rattle.dist_rows.specs.declared.cell.Offer.{Offer}
 use Rattle.dist_rows.specs.declared.cell.Via.TheVariants.{Through}

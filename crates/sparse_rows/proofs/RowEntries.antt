@@ -1,10 +1,12 @@
 -- A row: what a search finds, and what a write and an insertion change.
-use Rattle.std.proofs.Common.{zero, suc, ◌≡◌, ◌≢◌, ℕ, ◌+◌, ◌<◌, ◌≤◌, List, [], ◌∷◌, Bool, true, false, ◌&&◌, ◌||◌, Option, Some, None, set, ap, sym, ◌∙◌, refl, length, arith, subst}
+use Rattle.std.proofs.Common.{zero, suc, ◌≡◌, ◌≢◌, ℕ, ◌+◌, ◌<◌, ◌≤◌, List, [], ◌∷◌, Bool, true, false, ◌&&◌, ◌||◌, Option, Some, None, set, ap, sym, ◌∙◌}
+use Rattle.std.proofs.Common.{refl, length, arith, subst}
 use Rattle.std.specs.Prelude.{◌==◌, if◌then◌else◌, is_some, slice_index_or, nat_lt}
 use Rattle.std.specs.List.{insert}
 use Rattle.std.proofs.lemmas.Bool.Decides.{nat_tests}
 use Rattle.sparse_rows.specs.declared.entry.Entry.{Entry}
-use Rattle.sparse_rows.specs.Entries.{entry_in, cell_of, is_open, cell_at, opens, knows, no_entry, place_at, IsRising, cell_in, is_open_origin, IsSought, IsGap, IsHere, IsChanged}
+use Rattle.sparse_rows.specs.Entries.{entry_in, cell_of, is_open, cell_at, opens, knows, no_entry, place_at, IsRising, cell_in, is_open_origin, IsSought}
+use Rattle.sparse_rows.specs.Entries.{IsGap, IsHere, IsChanged}
 
 -- the places rise from b on
 abbrev pub IsRisingFrom : ℕ → List Entry → Type 0
@@ -26,14 +28,18 @@ by_index b (e ∷ es) h (suc p) (suc q) less lt = by_index (e.place + 1) es h.1 
 
 from_index : (b : ℕ) (es : List Entry) → (0 < length es → b ≤ place_at es 0) → IsRising es → IsRisingFrom b es
 from_index b [] first h = tt
-from_index b (e ∷ es) first h =
-    (first (omega arith), from_index (e.place + 1) es (λ l. (let less = h 0 1 (omega arith) (omega (arith, l)) in omega (arith, less))) (λ p q less l. h (suc p) (suc q) (omega (arith, less)) (omega (arith, l))))
+from_index b (e ∷ es) first h = (
+  first (omega arith),
+  from_index (e.place + 1) es (λ l. (let less = h 0 1 (omega arith) (omega (arith, l)) in omega (arith, less)))
+      (λ p q less l. h (suc p) (suc q) (omega (arith, less)) (omega (arith, l))),
+)
 
 rises : (es : List Entry) → IsRising es → IsRisingFrom 0 es
 rises es h = from_index 0 es (λ l. omega arith) h
 
 -- at the place of an entry that no earlier one has
-pub found : (es : List Entry) (p j : ℕ) → ((q : ℕ) → q < p → place_at es q < j) → p < length es → place_at es p ≡ j → entry_in es j ≡ Some (slice_index_or es p no_entry)
+pub found : (es : List Entry) (p j : ℕ) → ((q : ℕ) → q < p → place_at es q < j) → p < length es → place_at es p ≡ j
+    → entry_in es j ≡ Some (slice_index_or es p no_entry)
 found [] p j below lt is = absurd (omega (arith, lt))
 found (e ∷ es) zero j below lt is = (let yes : (e.place == j) ≡ true = grind (arith, nat_tests) in rw yes refl)
 found (e ∷ es) (suc p) j below lt is =
@@ -70,7 +76,8 @@ above_up es q m j rising less lt above =
     ] refl
 
 -- after a search for j whose entry is another, all later ones are above
-strictly_above : (es : List Entry) (p j : ℕ) → IsRising es → IsSought es j p → (p < length es → place_at es p ≢ j) → (q : ℕ) → p ≤ q → q < length es → j < place_at es q
+strictly_above : (es : List Entry) (p j : ℕ) → IsRising es → IsSought es j p → (p < length es → place_at es p ≢ j) → (q : ℕ) → p ≤ q → q < length es
+    → j < place_at es q
 strictly_above es p j rising s apart q a l =
     let here = s.above p (omega arith) (omega (arith, a, l)) in
     let other = apart (omega (arith, a, l)) in
@@ -107,9 +114,11 @@ not_both : (a b q : ℕ) → a < b → ((a == q) && (b == q)) ≡ false
 not_both a b q h = grind (arith, nat_tests)
 
 -- an entry written over one of its place
-pub set_entry : (es : List Entry) (p : ℕ) (e : Entry) → p < length es → e.place ≡ place_at es p → ((q : ℕ) → q < p → place_at es q < e.place) → (q : ℕ) → entry_in (set es p e) q ≡ (if e.place == q then Some e else entry_in es q)
+pub set_entry : (es : List Entry) (p : ℕ) (e : Entry) → p < length es → e.place ≡ place_at es p → ((q : ℕ) → q < p → place_at es q < e.place) → (q : ℕ)
+    → entry_in (set es p e) q ≡ (if e.place == q then Some e else entry_in es q)
 set_entry [] p e lt is below q = absurd (omega (arith, lt))
-set_entry (x ∷ xs) zero e lt is below q = subst (λ (k : ℕ). (if e.place == q then Some e else entry_in xs q) ≡ (if e.place == q then Some e else (if k == q then Some x else entry_in xs q))) is (nested (e.place == q) (Some e) (Some x) (entry_in xs q))
+set_entry (x ∷ xs) zero e lt is below q = subst (λ (k : ℕ). (if e.place == q then Some e else entry_in xs q)
+    ≡ (if e.place == q then Some e else (if k == q then Some x else entry_in xs q))) is (nested (e.place == q) (Some e) (Some x) (entry_in xs q))
 set_entry (x ∷ xs) (suc p) e lt is below q =
     rw (set_entry xs p e (omega (arith, lt)) is (λ k l. below (suc k) (omega (arith, l))) q)
     (swap (x.place == q) (e.place == q) (Some x) (Some e) (entry_in xs q) (not_both x.place e.place q (below zero (omega arith))))
@@ -128,7 +137,8 @@ set_places (x ∷ xs) (suc p) e is zero = refl
 set_places (x ∷ xs) (suc p) e is (suc q) = set_places xs p e is q
 
 -- an entry inserted at its place
-pub insert_entry : (es : List Entry) (p : ℕ) (e : Entry) → p ≤ length es → ((q : ℕ) → q < p → place_at es q < e.place) → (q : ℕ) → entry_in (insert es p e) q ≡ (if e.place == q then Some e else entry_in es q)
+pub insert_entry : (es : List Entry) (p : ℕ) (e : Entry) → p ≤ length es → ((q : ℕ) → q < p → place_at es q < e.place) → (q : ℕ)
+    → entry_in (insert es p e) q ≡ (if e.place == q then Some e else entry_in es q)
 insert_entry [] zero e le below q = refl
 insert_entry [] (suc p) e le below q = absurd (omega (arith, le))
 insert_entry (x ∷ xs) zero e le below q = refl
@@ -142,15 +152,19 @@ raised b c [] h first = tt
 raised b c (x ∷ xs) h first = (first (omega arith), h.1)
 
 -- a row rises when an entry is inserted at its place
-pub insert_rises : (b : ℕ) (es : List Entry) (p : ℕ) (e : Entry) → IsRisingFrom b es → b ≤ e.place → p ≤ length es → ((q : ℕ) → q < p → place_at es q < e.place) → ((q : ℕ) → p ≤ q → q < length es → e.place < place_at es q) → IsRisingFrom b (insert es p e)
+pub insert_rises : (b : ℕ) (es : List Entry) (p : ℕ) (e : Entry) → IsRisingFrom b es → b ≤ e.place → p ≤ length es
+    → ((q : ℕ) → q < p → place_at es q < e.place) → ((q : ℕ) → p ≤ q → q < length es → e.place < place_at es q) → IsRisingFrom b (insert es p e)
 insert_rises b [] zero e h low le below above = (low, tt)
 insert_rises b [] (suc p) e h low le below above = absurd (omega (arith, le))
 insert_rises b (x ∷ xs) zero e h low le below above =
     let first : e.place < x.place = above zero (omega arith) (omega arith) in
     (low, (omega (arith, first), h.1))
 insert_rises b (x ∷ xs) (suc p) e h low le below above =
-    let first : x.place < e.place = below zero (omega arith) in
-    (h.0, insert_rises (x.place + 1) xs p e h.1 (omega (arith, first)) (omega (arith, le)) (λ k l. below (suc k) (omega (arith, l))) (λ k a l. above (suc k) (omega (arith, a)) (omega (arith, l))))
+    let first : x.place < e.place = below zero (omega arith) in (
+      h.0,
+      insert_rises (x.place + 1) xs p e h.1 (omega (arith, first)) (omega (arith, le)) (λ k l. below (suc k) (omega (arith, l)))
+          (λ k a l. above (suc k) (omega (arith, a)) (omega (arith, l))),
+    )
 
 -- an entry written over one of its place, and one inserted
 pub written_entries : (es : List Entry) (p : ℕ) (e : Entry) → IsHere es e.place p → IsChanged es (set es p e) e
@@ -181,14 +195,19 @@ some_if : (b : Bool) (x : Entry) (y : Option Entry) → is_some (if b then Some 
 some_if true x y = refl
 some_if false x y = refl
 
-pub changed_cells : (old new : List Entry) (e : Entry) (j : ℕ) → IsChanged old new e → e.place ≡ j → (q : ℕ) → cell_at new q ≡ (if q == j then cell_in e else cell_at old q)
-changed_cells old new e j ch is q = ap cell_of (ch q) ∙ cell_if (e.place == q) (Some e) (entry_in old q) ∙ ap (λ (b : Bool). if b then cell_in e else cell_at old q) (ap (λ (k : ℕ). k == q) is ∙ flip j q)
+pub changed_cells : (old new : List Entry) (e : Entry) (j : ℕ) → IsChanged old new e → e.place ≡ j → (q : ℕ)
+    → cell_at new q ≡ (if q == j then cell_in e else cell_at old q)
+changed_cells old new e j ch is q = ap cell_of (ch q) ∙ cell_if (e.place == q) (Some e) (entry_in old q)
+    ∙ ap (λ (b : Bool). if b then cell_in e else cell_at old q) (ap (λ (k : ℕ). k == q) is ∙ flip j q)
 
-pub changed_opens : (old new : List Entry) (e : Entry) (j : ℕ) → IsChanged old new e → e.place ≡ j → (q : ℕ) → opens new q ≡ (if q == j then is_open_origin e.origin else opens old q)
-changed_opens old new e j ch is q = ap is_open (ch q) ∙ open_if (e.place == q) (Some e) (entry_in old q) ∙ ap (λ (b : Bool). if b then is_open_origin e.origin else opens old q) (ap (λ (k : ℕ). k == q) is ∙ flip j q)
+pub changed_opens : (old new : List Entry) (e : Entry) (j : ℕ) → IsChanged old new e → e.place ≡ j → (q : ℕ)
+    → opens new q ≡ (if q == j then is_open_origin e.origin else opens old q)
+changed_opens old new e j ch is q = ap is_open (ch q) ∙ open_if (e.place == q) (Some e) (entry_in old q)
+    ∙ ap (λ (b : Bool). if b then is_open_origin e.origin else opens old q) (ap (λ (k : ℕ). k == q) is ∙ flip j q)
 
 pub changed_knows : (old new : List Entry) (e : Entry) (j : ℕ) → IsChanged old new e → e.place ≡ j → (q : ℕ) → knows new q ≡ ((q == j) || knows old q)
-changed_knows old new e j ch is q = ap (λ (o : Option Entry). is_some o) (ch q) ∙ some_if (e.place == q) e (entry_in old q) ∙ ap (λ (b : Bool). b || knows old q) (ap (λ (k : ℕ). k == q) is ∙ flip j q)
+changed_knows old new e j ch is q = ap (λ (o : Option Entry). is_some o) (ch q) ∙ some_if (e.place == q) e (entry_in old q)
+    ∙ ap (λ (b : Bool). b || knows old q) (ap (λ (k : ℕ). k == q) is ∙ flip j q)
 
 -- the places after an entry is written over one of its place
 pub written_places : (es : List Entry) (p : ℕ) (e : Entry) → IsHere es e.place p → (q : ℕ) → place_at (set es p e) q ≡ place_at es q
@@ -197,7 +216,8 @@ written_places es p e h = set_places es p e (sym h.place)
 -- a search finds the entry of a place that is known
 pub here_from_known : (es : List Entry) (p j : ℕ) → IsRising es → IsSought es j p → knows es j ≡ true → IsHere es j p
 here_from_known es p j rising s known =
-    let gone : (p < length es → place_at es p ≢ j) → IsHere es j p = (λ apart. (let none : entry_in es j ≡ None = gap_none es p j (is_gap es p j rising s apart) in absurd (not_known (entry_in es j) none known))) in
+    let gone : (p < length es → place_at es p ≢ j) → IsHere es j p = (λ apart.
+    (let none : entry_in es j ≡ None = gap_none es p j (is_gap es p j rising s apart) in absurd (not_known (entry_in es j) none known))) in
     elim (nat_lt p (length es)) as (λ b. nat_lt p (length es) ≡ b → IsHere es j p) [
       | true ↦ λ l. elim (place_at es p == j) as (λ b. (place_at es p == j) ≡ b → IsHere es j p) [
         | true ↦ λ e. is_here es p j s (grind (arith, nat_tests)) (grind (arith, nat_tests))
@@ -228,14 +248,16 @@ inserted_len (x ∷ xs) zero e le = omega arith
 inserted_len (x ∷ xs) (suc p) e le = (let rest = inserted_len xs p e (omega (arith, le)) in omega (arith, rest))
 
 -- the room of a place, where a search for it has ended
-pub room_there : (es : List Entry) (p j : ℕ) → IsSought es j p → p < length es → place_at es p ≡ j → is_open_origin (slice_index_or es p no_entry).origin ≡ opens es j
+pub room_there : (es : List Entry) (p j : ℕ) → IsSought es j p → p < length es → place_at es p ≡ j
+    → is_open_origin (slice_index_or es p no_entry).origin ≡ opens es j
 room_there es p j s lt is = sym (ap is_open (found es p j s.below lt is))
 
 pub room_missing : (es : List Entry) (p j : ℕ) → IsRising es → IsSought es j p → (p < length es → place_at es p ≢ j) → false ≡ opens es j
 room_missing es p j rising s apart = sym (ap is_open (gap_none es p j (is_gap es p j rising s apart)))
 
 -- a walk that has reached a place
-pub sought_at : (es : List Entry) (j p : ℕ) → IsRising es → p ≤ length es → ((q : ℕ) → q < p → place_at es q < j) → (p < length es → j ≤ place_at es p) → IsSought es j p
+pub sought_at : (es : List Entry) (j p : ℕ) → IsRising es → p ≤ length es → ((q : ℕ) → q < p → place_at es q < j) → (p < length es → j ≤ place_at es p)
+    → IsSought es j p
 sought_at es j p rising within below above = record {
   within = within;
   below = below;

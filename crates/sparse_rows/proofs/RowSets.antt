@@ -1,5 +1,6 @@
 -- One row replaced among the rows.
-use Rattle.std.proofs.Common.{zero, suc, ◌≡◌, ◌≢◌, ℕ, ◌+◌, ◌<◌, ◌≤◌, List, [], ◌∷◌, ◌++◌, Bool, true, false, ◌&&◌, ◌||◌, Option, Some, None, set, take, ap, sym, ◌∙◌, refl, length, arith, subst, get_or-set_other, get_or-set_same, length-set}
+use Rattle.std.proofs.Common.{zero, suc, ◌≡◌, ◌≢◌, ℕ, ◌+◌, ◌<◌, ◌≤◌, List, [], ◌∷◌, ◌++◌, Bool, true, false, ◌&&◌, ◌||◌, Option, Some, None, set, take, ap}
+use Rattle.std.proofs.Common.{sym, ◌∙◌, refl, length, arith, subst, get_or-set_other, get_or-set_same, length-set}
 use Rattle.std.proofs.lemmas.List.{get_or_read, get_or_default}
 use Rattle.std.specs.Prelude.{◌==◌, not, if◌then◌else◌, is_some, IfSome, slice_index_or, nat_lt, int_lt}
 use Rattle.std.proofs.lemmas.Bool.Decides.{nat_tests}
@@ -22,7 +23,8 @@ row_set rows i p r lt =
     ] refl
 
 -- what holds of the new row and of all old ones holds of all
-by_row : (P : ℕ → List Entry → Type 0) (rows : List (List Entry)) (i : ℕ) (r : List Entry) → i < length rows → P i r → ((p : ℕ) → P p (row_of rows p)) → (p : ℕ) → P p (row_of (set rows i r) p)
+by_row : (P : ℕ → List Entry → Type 0) (rows : List (List Entry)) (i : ℕ) (r : List Entry) → i < length rows → P i r → ((p : ℕ) → P p (row_of rows p))
+    → (p : ℕ) → P p (row_of (set rows i r) p)
 by_row P rows i r lt new old p =
     subst (λ (x : List Entry). P p x) (sym (row_set rows i p r lt))
     (elim (p == i) as (λ b. (p == i) ≡ b → P p (if b then r else row_of rows p)) [
@@ -34,7 +36,8 @@ light_some : (o : Option Cell) (c : Cell) → IfSome o (λ d. IsLight 100 d.weig
 light_some None c h e = absurd (cc)
 light_some (Some d) c h e = (let same : d ≡ c = cc in subst (λ (x : Cell). IsLight 100 x.weight) same h)
 
--- the rows are kept where the new row rises, has entries of other places below the size and of light cells, all that were there, and room only where it is mirrored
+-- the rows are kept where the new row rises, has entries of other places below the size and of light cells, all that were there, and room only where it is
+-- mirrored
 pub kept : (n : ℕ) (rows : List (List Entry)) (i : ℕ) (r : List Entry) → AreRows n rows → i < n → IsRising r
     → ((q : ℕ) → knows r q ≡ true → (q < n) × (i ≢ q))
     → ((q : ℕ) → IfSome (cell_at r q) (λ c. IsLight 100 c.weight))
@@ -43,14 +46,18 @@ pub kept : (n : ℕ) (rows : List (List Entry)) (i : ℕ) (r : List Entry) → A
     → AreRows n (set rows i r)
 kept n rows i r k lt rising within light more mirrored =
     let l : i < length rows = rw k.len lt in
-    let grows : (q : ℕ) → (m : ℕ) → knows (row_of rows q) m ≡ true → knows (row_of (set rows i r) q) m ≡ true = by_row (λ q x. (m : ℕ) → knows (row_of rows q) m ≡ true → knows x m ≡ true) rows i r l more (λ q m h. h) in
-    let shines : (p : ℕ) (q : ℕ) (c : Cell) → cell_at (row_of (set rows i r) p) q ≡ Some c → IsLight 100 c.weight = by_row (λ p x. (q : ℕ) (c : Cell) → cell_at x q ≡ Some c → IsLight 100 c.weight) rows i r l (λ q c e. light_some (cell_at r q) c (light q) e) k.light in
+    let grows : (q : ℕ) → (m : ℕ) → knows (row_of rows q) m ≡ true → knows (row_of (set rows i r) q) m
+    ≡ true = by_row (λ q x. (m : ℕ) → knows (row_of rows q) m ≡ true → knows x m ≡ true) rows i r l more (λ q m h. h) in
+    let shines : (p : ℕ) (q : ℕ) (c : Cell) → cell_at (row_of (set rows i r) p) q ≡ Some c
+    → IsLight 100 c.weight = by_row (λ p x. (q : ℕ) (c : Cell) → cell_at x q ≡ Some c → IsLight 100 c.weight) rows i r l
+    (λ q c e. light_some (cell_at r q) c (light q) e) k.light in
     record {
       len = length-set rows i r ∙ k.len;
       rising = by_row (λ p x. IsRising x) rows i r l rising k.rising;
       within = by_row (λ p x. (q : ℕ) → knows x q ≡ true → (q < n) × (p ≢ q)) rows i r l within k.within;
       light = shines;
-      mirrored = by_row (λ p x. (q : ℕ) → opens x q ≡ true → knows (row_of (set rows i r) q) p ≡ true) rows i r l (λ q h. grows q i (mirrored q h)) (λ p q h. grows q p (k.mirrored p q h));
+      mirrored = by_row (λ p x. (q : ℕ) → opens x q ≡ true → knows (row_of (set rows i r) q) p ≡ true) rows i r l (λ q h. grows q i (mirrored q h))
+          (λ p q h. grows q p (k.mirrored p q h));
     }
 
 -- the cells after one of them is lowered
@@ -59,8 +66,10 @@ pub cells_lowered : (rows : List (List Entry)) (i j : ℕ) (r : List Entry) (cel
     → (p q : ℕ) → cells_of (set rows i r) p q ≡ lowered i j cell (cells_of rows) p q
 cells_lowered rows i j r cell lt is p q =
     subst (λ (x : List Entry). cell_at x q ≡ lowered i j cell (cells_of rows) p q) (sym (row_set rows i p r lt))
-    (elim (p == i) as (λ b. (p == i) ≡ b → cell_at (if b then r else row_of rows p) q ≡ (if b && (q == j) then lesser (cells_of rows i j) cell else cells_of rows p q)) [
-      | true ↦ λ h. (let e : i ≡ p = grind (arith, nat_tests) in subst (λ (k : ℕ). cell_at r q ≡ (if q == j then lesser (cells_of rows i j) cell else cells_of rows k q)) e (is q))
+    (elim (p == i) as (λ b. (p == i) ≡ b → cell_at (if b then r else row_of rows p) q
+    ≡ (if b && (q == j) then lesser (cells_of rows i j) cell else cells_of rows p q)) [
+      | true ↦ λ h. (let e : i ≡ p = grind (arith, nat_tests) in subst
+          (λ (k : ℕ). cell_at r q ≡ (if q == j then lesser (cells_of rows i j) cell else cells_of rows k q)) e (is q))
       | false ↦ λ h. refl
     ] refl)
 
@@ -76,7 +85,8 @@ room_made rows i j r lt is p q =
     ] refl)
 
 -- a fact of a row that the new one shares
-pub stays : {X : Type 0} (F : List Entry → ℕ → X) (rows : List (List Entry)) (i : ℕ) (r : List Entry) → i < length rows → ((q : ℕ) → F r q ≡ F (row_of rows i) q) → (p q : ℕ) → F (row_of (set rows i r) p) q ≡ F (row_of rows p) q
+pub stays : {X : Type 0} (F : List Entry → ℕ → X) (rows : List (List Entry)) (i : ℕ) (r : List Entry) → i < length rows
+    → ((q : ℕ) → F r q ≡ F (row_of rows i) q) → (p q : ℕ) → F (row_of (set rows i r) p) q ≡ F (row_of rows p) q
 stays F rows i r lt is = by_row (λ p x. (q : ℕ) → F x q ≡ F (row_of rows p) q) rows i r lt is (λ p q. refl)
 
 pub empty_push : (rows : List (List Entry)) → ((p : ℕ) → row_of rows p ≡ []) → (p : ℕ) → row_of (rows ++ [] ∷ []) p ≡ []
@@ -139,7 +149,8 @@ none_left : (n : ℕ) (rows : List (List Entry)) (i m : ℕ) → AreRows n rows
     → are_neighbours (cells_of rows) i m ≡ false
 none_left n rows i m k old =
     elim (are_neighbours (cells_of rows) i m) as (λ b. are_neighbours (cells_of rows) i m ≡ b → b ≡ false) [
-      | true ↦ λ h. knows_at (row_of rows i) m (true ≡ false) (neighbour_known n rows i m k h) (λ q l is. sym h ∙ subst (λ (p : ℕ). are_neighbours (cells_of rows) i p ≡ false) is (old q l is))
+      | true ↦ λ h. knows_at (row_of rows i) m (true ≡ false) (neighbour_known n rows i m k h)
+          (λ q l is. sym h ∙ subst (λ (p : ℕ). are_neighbours (cells_of rows) i p ≡ false) is (old q l is))
       | false ↦ λ h. refl
     ] refl
 
@@ -154,22 +165,26 @@ pub no_lesser : (n : ℕ) (rows : List (List Entry)) (i : ℕ) (A : ℕ → Type
 no_lesser n rows i A p k old m less a =
     none_left n rows i m k (λ q l is. old q (comes_before (row_of rows i) q p (k.rising i) l (omega (arith, is, less))) (subst A (sym is) a))
 
-lesser_light : (old : Option Cell) (cell : Cell) → IfSome old (λ c. IsLight 100 c.weight) → IsLight 100 cell.weight → IfSome (lesser old cell) (λ c. IsLight 100 c.weight)
+lesser_light : (old : Option Cell) (cell : Cell) → IfSome old (λ c. IsLight 100 c.weight) → IsLight 100 cell.weight
+    → IfSome (lesser old cell) (λ c. IsLight 100 c.weight)
 lesser_light None cell h light = light
 lesser_light (Some o) cell h light =
     elim (int_lt cell.weight o.weight) as (λ b. IfSome (if b then Some cell else Some o) (λ c. IsLight 100 c.weight)) [ true ↦ light | false ↦ h ]
 
 -- the rows are kept after a cell with room is lowered
-pub kept_lowered : (n : ℕ) (rows : List (List Entry)) (i j : ℕ) (x r : List Entry) (cell : Cell) → AreRows n rows → i < n → x ≡ slice_index_or rows i x → IsRising r
+pub kept_lowered : (n : ℕ) (rows : List (List Entry)) (i j : ℕ) (x r : List Entry) (cell : Cell) → AreRows n rows → i < n → x ≡ slice_index_or rows i x
+    → IsRising r
     → ((q : ℕ) → knows r q ≡ knows x q) → ((q : ℕ) → opens r q ≡ opens x q)
     → ((q : ℕ) → cell_at r q ≡ (if q == j then lesser (cell_at x j) cell else cell_at x q)) → IsLight 100 cell.weight → AreRows n (set rows i r)
 kept_lowered n rows i j x r cell k lt at rising known room cells light =
     let e : x ≡ row_of rows i = row_read n rows k i lt x at in
     let known_now : (q : ℕ) → knows r q ≡ knows (row_of rows i) q = (λ q. known q ∙ ap (λ (y : List Entry). knows y q) e) in
     let room_now : (q : ℕ) → opens r q ≡ opens (row_of rows i) q = (λ q. room q ∙ ap (λ (y : List Entry). opens y q) e) in
-    let cells_now : (q : ℕ) → cell_at r q ≡ (if q == j then lesser (cell_at (row_of rows i) j) cell else cell_at (row_of rows i) q) = (λ q. cells q ∙ ap (λ (y : List Entry). if q == j then lesser (cell_at y j) cell else cell_at y q) e) in
+    let cells_now : (q : ℕ) → cell_at r q ≡ (if q == j then lesser (cell_at (row_of rows i) j) cell else cell_at (row_of rows i) q) = (λ q. cells q
+    ∙ ap (λ (y : List Entry). if q == j then lesser (cell_at y j) cell else cell_at y q) e) in
     let shines : (q : ℕ) → IfSome (if q == j then lesser (cell_at (row_of rows i) j) cell else cell_at (row_of rows i) q) (λ c. IsLight 100 c.weight)
-    = (λ q. elim (q == j) as (λ b. IfSome (if b then lesser (cell_at (row_of rows i) j) cell else cell_at (row_of rows i) q) (λ c. IsLight 100 c.weight)) [ true ↦ lesser_light (cell_at (row_of rows i) j) cell (are_light n rows k i j) light | false ↦ are_light n rows k i q ]) in
+    = (λ q. elim (q == j) as (λ b. IfSome (if b then lesser (cell_at (row_of rows i) j) cell else cell_at (row_of rows i) q) (λ c. IsLight 100 c.weight))
+    [ true ↦ lesser_light (cell_at (row_of rows i) j) cell (are_light n rows k i j) light | false ↦ are_light n rows k i q ]) in
     kept n rows i r k lt rising
     (λ q h. k.within i q (sym (known_now q) ∙ h))
     (λ q. subst (λ (o : Option Cell). IfSome o (λ c. IsLight 100 c.weight)) (sym (cells_now q)) (shines q))
@@ -177,12 +192,15 @@ kept_lowered n rows i j x r cell k lt at rising known room cells light =
     (λ q h. k.mirrored i q (sym (room_now q) ∙ h))
 
 -- an entry that a search finds in a row that is read
-pub here_read : (n : ℕ) (rows : List (List Entry)) (i j p : ℕ) (x : List Entry) → AreRows n rows → i < n → x ≡ slice_index_or rows i x → IsSought (row_of rows i) j p → opens (row_of rows i) j ≡ true → IsHere x j p
+pub here_read : (n : ℕ) (rows : List (List Entry)) (i j p : ℕ) (x : List Entry) → AreRows n rows → i < n → x ≡ slice_index_or rows i x
+    → IsSought (row_of rows i) j p → opens (row_of rows i) j ≡ true → IsHere x j p
 here_read n rows i j p x k lt at s room =
-    subst (λ (y : List Entry). IsHere y j p) (sym (row_read n rows k i lt x at)) (here_from_known (row_of rows i) p j (k.rising i) s (known_from_room (row_of rows i) j room))
+    subst (λ (y : List Entry). IsHere y j p) (sym (row_read n rows k i lt x at))
+    (here_from_known (row_of rows i) p j (k.rising i) s (known_from_room (row_of rows i) j room))
 
 -- what is below an offer is below all later ones
-pub before_later : (os : List Offer) (n m x : ℕ) (d : Offer) → AreRising os → n < length os → x < (slice_index_or os n d).place → n + 1 ≤ m → m < length os → x < (offer_at os m).place
+pub before_later : (os : List Offer) (n m x : ℕ) (d : Offer) → AreRising os → n < length os → x < (slice_index_or os n d).place → n + 1 ≤ m → m < length os
+    → x < (offer_at os m).place
 before_later os n m x d rising lt less later there =
     let e : slice_index_or os n d ≡ offer_at os n = get_or_default os n d no_offer lt in
     let place : (slice_index_or os n d).place ≡ (offer_at os n).place = ap (λ (y : Offer). y.place) e in
@@ -190,7 +208,8 @@ before_later os n m x d rising lt less later there =
     omega (arith, place, up, less)
 
 -- what is below a place of a list that rises is below all later ones
-pub below_later : (list : List ℕ) (n m x d : ℕ) → AreRisingPlaces list → n < length list → x < slice_index_or list n d → n + 1 ≤ m → m < length list → x < slice_index_or list m 0
+pub below_later : (list : List ℕ) (n m x d : ℕ) → AreRisingPlaces list → n < length list → x < slice_index_or list n d → n + 1 ≤ m → m < length list
+    → x < slice_index_or list m 0
 below_later list n m x d rising lt less later there =
     let e : slice_index_or list n d ≡ slice_index_or list n 0 = get_or_default list n d 0 lt in
     let up : slice_index_or list n 0 < slice_index_or list m 0 = rising n m (omega (arith, later)) there in
@@ -218,7 +237,8 @@ listing_start size rows i from start k low b high = listing_empty (are_neighbour
     ] refl))
 
 -- a listing goes on by the entry that comes next
-pub listing_next : (size : ℕ) (rows : List (List Entry)) (i from start at n b : ℕ) (w : Bool) (xs : List ℕ) → AreRows size rows → IsSought (row_of rows i) from start → start ≤ at
+pub listing_next : (size : ℕ) (rows : List (List Entry)) (i from start at n b : ℕ) (w : Bool) (xs : List ℕ) → AreRows size rows
+    → IsSought (row_of rows i) from start → start ≤ at
     → at < length (row_of rows i) → n ≡ place_at (row_of rows i) at → w ≡ are_neighbours (cells_of rows) i n
     → ((c : ℕ) → IsSought (row_of rows i) c at → IsListing (are_neighbours (cells_of rows) i) from c xs)
     → IsSought (row_of rows i) b (at + 1) → IsListing (are_neighbours (cells_of rows) i) from b (xs ++ (if w then n ∷ [] else []))
@@ -231,9 +251,11 @@ listing_next size rows i from start at n b w xs k low on lt is wanted was sought
       only : (q p : ℕ) → n ≤ p → p < b → q < length (row_of rows i) → place_at (row_of rows i) q ≡ p → p ≡ n
       only q p above below l at_p =
           elim (nat_lt q at) as (λ t. nat_lt q at ≡ t → p ≡ n) [
-            | true ↦ λ h. (let before : q < at = grind (arith, nat_tests) in let less = (k.rising i) q at before lt in absurd (omega (arith, less, above, at_p, is)))
+            | true ↦ λ h. (let before : q < at = grind (arith, nat_tests) in let less = (k.rising i) q at before lt in
+                absurd (omega (arith, less, above, at_p, is)))
             | false ↦ λ h. elim (nat_lt at q) as (λ t. nat_lt at q ≡ t → p ≡ n) [
-              | true ↦ λ g. (let after : at + 1 ≤ q = grind (arith, nat_tests) in let least = sought.above q after l in absurd (omega (arith, least, below, at_p)))
+              | true ↦ λ g. (let after : at + 1 ≤ q = grind (arith, nat_tests) in let least = sought.above q after l in
+                  absurd (omega (arith, least, below, at_p)))
               | false ↦ λ g. (let same : q ≡ at = grind (arith, nat_tests) in sym at_p ∙ ap (λ (m : ℕ). place_at (row_of rows i) m) same ∙ sym is)
             ] refl
           ] refl
@@ -242,7 +264,8 @@ listing_next size rows i from start at n b w xs k low on lt is wanted was sought
 pub count_more : (room : ℕ → ℕ → Bool) (i : ℕ) (list : List ℕ) (n count : ℕ) → n < length list → count ≡ count_roomless room i (take n list)
     → count + (if is_roomless room i (slice_index_or list n 0) then 1 else 0) ≡ count_roomless room i (take (n + 1) list)
 count_more room i list n count lt so =
-    elim (is_roomless room i (slice_index_or list n 0)) as (λ w. is_roomless room i (slice_index_or list n 0) ≡ w → count + (if w then 1 else 0) ≡ count_roomless room i (take (n + 1) list)) [
+    elim (is_roomless room i (slice_index_or list n 0)) as (λ w. is_roomless room i (slice_index_or list n 0) ≡ w
+    → count + (if w then 1 else 0) ≡ count_roomless room i (take (n + 1) list)) [
       | true ↦ λ is. (let more = count_by_more_yes (is_roomless room i) list n 0 lt is in omega (arith, so, more))
       | false ↦ λ is. (let same = count_by_more_no (is_roomless room i) list n 0 lt is in omega (arith, so, same))
     ] refl
@@ -281,7 +304,8 @@ open_more rows list n old none m q less there apart =
     elim (nat_lt m n) as (λ w. nat_lt m n ≡ w → rooms_of rows (slice_index_or list m 0) q ≡ true) [
       | true ↦ λ h. old m q (grind (arith, nat_tests)) there apart
       | false ↦ λ h. (let last : n ≡ m = grind (arith, nat_tests) in
-          counted_none (rooms_of rows) (slice_index_or list m 0) list (subst (λ (k : ℕ). count_roomless (rooms_of rows) (slice_index_or list k 0) list ≡ 0) last none) q there apart)
+          counted_none (rooms_of rows) (slice_index_or list m 0) list (subst (λ (k : ℕ). count_roomless (rooms_of rows) (slice_index_or list k 0) list ≡ 0)
+          last none) q there apart)
     ] refl
 
 pub open_all : (rows : List (List Entry)) (list : List ℕ)
@@ -290,7 +314,8 @@ open_all rows list each p q first second apart = stands_at list p (rooms_of rows
     (λ m l is. subst (λ (k : ℕ). rooms_of rows k q ≡ true) is (each m q l second (λ same. apart (sym is ∙ same))))
 
 -- room that is there already
-pub open_already : (rows : List (List Entry)) (list : List ℕ) → AreOpen rows list → (p q : ℕ) → rooms_of rows p q ≡ ((not (p == q) && lists list p && lists list q) || rooms_of rows p q)
+pub open_already : (rows : List (List Entry)) (list : List ℕ) → AreOpen rows list → (p q : ℕ)
+    → rooms_of rows p q ≡ ((not (p == q) && lists list p && lists list q) || rooms_of rows p q)
 open_already rows list each p q = there (lists list p) (lists list q) (rooms_of rows p q) (each p q) where
   there : (a b c : Bool) → (a ≡ true → b ≡ true → p ≢ q → c ≡ true) → c ≡ ((not (p == q) && a && b) || c)
   there true true true h = grind (arith, nat_tests)
@@ -303,7 +328,8 @@ pub row_open_already : (rows : List (List Entry)) (i : ℕ) (list : List ℕ) �
 row_open_already rows i list none p q =
     elim (p == i) as (λ w. (p == i) ≡ w → rooms_of rows p q ≡ ((not (p == q) && w && lists list q) || rooms_of rows p q)) [
       | true ↦ λ same. (let is : i ≡ p = grind (arith, nat_tests) in
-          there (lists list q) (rooms_of rows p q) (λ h apart. subst (λ (k : ℕ). rooms_of rows k q ≡ true) is (counted_none (rooms_of rows) i list none q h (λ e. apart (sym is ∙ e)))))
+          there (lists list q) (rooms_of rows p q) (λ h apart. subst (λ (k : ℕ). rooms_of rows k q ≡ true) is
+          (counted_none (rooms_of rows) i list none q h (λ e. apart (sym is ∙ e)))))
       | false ↦ λ other. grind (arith, nat_tests)
     ] refl where
       there : (b c : Bool) → (b ≡ true → p ≢ q → c ≡ true) → c ≡ ((not (p == q) && true && b) || c)

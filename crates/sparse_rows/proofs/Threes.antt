@@ -1,5 +1,5 @@
 -- Lists of three places that rise.
-use Rattle.std.proofs.Common.{zero, suc, ◌≡◌, ◌≢◌, ℕ, ◌<◌, List, [], ◌∷◌, Bool, true, ◌&&◌, ◌||◌, length, arith, refl}
+use Rattle.std.proofs.Common.{zero, suc, ◌≡◌, ◌≢◌, ℕ, ◌<◌, [], ◌∷◌, Bool, true, ◌&&◌, ◌||◌, arith, refl}
 use Rattle.std.specs.Prelude.{◌==◌, not}
 use Rattle.std.proofs.lemmas.Bool.Decides.{nat_tests}
 use Rattle.dist_rows.specs.Places.{lists, AreWithin, AreRisingPlaces}
@@ -21,4 +21,5 @@ three_rising a b c ab bc m (suc (suc (suc n))) less l = absurd (omega (arith, l)
 
 pub three_room : (room old : ℕ → ℕ → Bool) (i a b c : ℕ) → ((p q : ℕ) → room p q ≡ ((not (p == q) && (p == i) && lists (a ∷ b ∷ c ∷ []) q) || old p q))
     → (j : ℕ) → i ≢ j → lists (a ∷ b ∷ c ∷ []) j ≡ true → room i j ≡ true
-three_room room old i a b c is j apart there = (let new : (not (i == j) && (i == i) && lists (a ∷ b ∷ c ∷ []) j) ≡ true = rw there (grind (arith, nat_tests)) in rw (is i j, new) refl)
+three_room room old i a b c is j apart there = (let new : (not (i == j) && (i == i) && lists (a ∷ b ∷ c ∷ []) j)
+    ≡ true = rw there (grind (arith, nat_tests)) in rw (is i j, new) refl)

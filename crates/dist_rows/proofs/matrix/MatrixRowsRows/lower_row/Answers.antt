@@ -11,7 +11,8 @@ use Rattle.dist_rows.proofs.matrix.MatrixRowsRows.lower_row.Goals as goal
 pub loop-n-preserved : goal.loop-n-preserved
 loop-n-preserved c = record {
   size = c.offer.ensures.size ∙ c.loop-n.invariant.size;
-  cells = λ p q. one_more c.args.i c.args.k _ c.args.offers.now c.loop-n.n _ (cell_at c.loop-n.self.size c.loop-n.self.slots.items) (cell_at c.offer.new.self.size c.offer.new.self.slots.items) c.loop-n-test.true (search rules) c.offer.ensures.cells p q ∙ c.loop-n.invariant.cells p q;
+  cells = λ p q. one_more c.args.i c.args.k _ c.args.offers.now c.loop-n.n _ (cell_at c.loop-n.self.size c.loop-n.self.slots.items)
+      (cell_at c.offer.new.self.size c.offer.new.self.slots.items) c.loop-n-test.true (search rules) c.offer.ensures.cells p q ∙ c.loop-n.invariant.cells p q;
 }
 
 pub returns-clause-cells : goal.returns-clause-cells
@@ -22,5 +23,6 @@ returns-clause-cells c = λ p q.
     let after = cell_at c.loop-n.self.size c.loop-n.self.slots.items in
     let done = c.loop-n.invariant.cells p q in
     sym (ap (λ (os : List Offer). all_offered c.args.i c.args.k c.args.by os after p q) none)
-    ∙ subst (λ (b : ℤ). all_offered c.args.i c.args.k b (drop c.loop-n.n c.args.offers.now) after p q ≡ all_offered c.args.i c.args.k b c.args.offers.now before p q) by done
+    ∙ subst (λ (b : ℤ). all_offered c.args.i c.args.k b (drop c.loop-n.n c.args.offers.now) after p q
+    ≡ all_offered c.args.i c.args.k b c.args.offers.now before p q) by done
     ∙ all_offered_is c.args.i c.args.k c.args.by c.args.offers.now c.requires.rising before p q

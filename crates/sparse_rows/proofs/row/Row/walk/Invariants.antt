@@ -1,4 +1,4 @@
-use Rattle.std.proofs.Common.{◌-◌, ◌≡◌, ℕ, ◌<◌, ◌≤◌, length}
+use Rattle.std.proofs.Common.{◌-◌, ℕ, ◌<◌, ◌≤◌, length}
 use Rattle.sparse_rows.specs.Entries.{place_at}
 use Rattle.sparse_rows.proofs.row.Row.walk.Given as goal
 

@@ -9,7 +9,8 @@ use Rattle.sparse_rows.proofs.sparse.SparseRowsRows.count_roomless.Goals as goal
 pub loop-n-preserved : goal.loop-n-preserved
 loop-n-preserved c =
     let rows = c.args.self.now.rows.items in
-    let sought : IsSought (row_of rows c.args.i) (slice_index_or c.args.list.now c.loop-n.n 0) c.advance-at.result = rw (← c.row.ensures.value) c.advance-at.ensures in
+    let sought : IsSought (row_of rows c.args.i) (slice_index_or c.args.list.now c.loop-n.n 0) c.advance-at.result = rw (← c.row.ensures.value)
+    c.advance-at.ensures in
     let more = count_more (rooms_of rows) c.args.i c.args.list.now c.loop-n.n c.loop-n.count c.loop-n-test.true c.loop-n.invariant.count in
     let one = at_most_one (is_roomless (rooms_of rows) c.args.i (slice_index_or c.args.list.now c.loop-n.n 0)) in
     record {

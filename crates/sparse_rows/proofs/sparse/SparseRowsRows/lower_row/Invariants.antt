@@ -8,7 +8,8 @@ use Rattle.sparse_rows.proofs.sparse.SparseRowsRows.lower_row.Given as goal
 abbrev pub invariant-loop-n : goal.invariant-loop-n
 invariant-loop-n l = record {
   size : l.self.size ≡ l.initial.self.size;
-  cells : (p q : ℕ) → all_offered l.fn.i l.fn.k l.fn.by (drop l.n l.fn.offers) (cells_of l.self.rows.items) p q ≡ all_offered l.fn.i l.fn.k l.fn.by l.fn.offers (cells_of l.initial.self.rows.items) p q;
+  cells : (p q : ℕ) → all_offered l.fn.i l.fn.k l.fn.by (drop l.n l.fn.offers) (cells_of l.self.rows.items) p q
+      ≡ all_offered l.fn.i l.fn.k l.fn.by l.fn.offers (cells_of l.initial.self.rows.items) p q;
   room : (p q : ℕ) → rooms_of l.self.rows.items p q ≡ rooms_of l.initial.self.rows.items p q;
   within : l.at ≤ length (row_of l.self.rows.items l.i);
   before : (m q : ℕ) → l.n ≤ m → m < length l.fn.offers → q < l.at → place_at (row_of l.self.rows.items l.i) q < (offer_at l.fn.offers m).place;

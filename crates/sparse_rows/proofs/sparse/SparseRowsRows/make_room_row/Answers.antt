@@ -10,7 +10,8 @@ pub returns-clause-room : goal.returns-clause-room
 returns-clause-room c = λ p q.
     c.open_row.ensures.room p q
     ∙ row_roomed_is c.args.i c.args.list.now (rooms_of c.know_row.new.self.rows.items) p q
-    ∙ ap (λ (b : Bool). (not (p == q) && (p == c.args.i) && lists c.args.list.now q) || b) (c.in_ok-know_row.ensures.room p q ∙ c.in_ok-know_column.ensures.room p q)
+    ∙ ap (λ (b : Bool). (not (p == q) && (p == c.args.i) && lists c.args.list.now q) || b)
+    (c.in_ok-know_row.ensures.room p q ∙ c.in_ok-know_column.ensures.room p q)
 
 pub returns-then-count_roomless-eq0-clause-room : goal.returns-then-count_roomless-eq0-clause-room
 returns-then-count_roomless-eq0-clause-room c =

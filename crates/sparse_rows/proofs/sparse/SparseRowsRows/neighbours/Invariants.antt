@@ -9,5 +9,6 @@ abbrev pub invariant-loop-at : goal.invariant-loop-at
 invariant-loop-at l = record {
   len : length l.list ≡ length l.initial.list;
   count : l.count ≤ length l.list;
-  listed : (b : ℕ) → IsSought (row_of l.self.rows.items l.i) b l.at → IsListing (are_neighbours (cells_of l.self.rows.items) l.i) l.fn.from b (take l.count l.list);
+  listed : (b : ℕ) → IsSought (row_of l.self.rows.items l.i) b l.at → IsListing (are_neighbours (cells_of l.self.rows.items) l.i) l.fn.from b
+      (take l.count l.list);
 }
