@@ -1,0 +1,4 @@
+pub mod interfaces
+pub mod states
+pub mod cells
+pub mod networks

@@ -1,0 +1,10 @@
+pub mod Interfaces
+pub mod States
+pub mod Weights
+pub mod Windows
+pub mod Refusals
+pub mod Replays
+pub mod Together
+pub mod Laws
+pub mod Examples
+pub mod Views
