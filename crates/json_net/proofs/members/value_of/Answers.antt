@@ -1,0 +1,11 @@
+-- The value at a key is the one that the map has there.
+use Rattle.std.proofs.Common.{ℕ, List, option_map, ap, ◌∙◌}
+use Rattle.serde_json.specs.View.{view, members_view}
+use Rattle.serde_json.proofs.Views.{view_of_ref, view-lookup}
+use Rattle.serde_json.specs.Find.{get_member}
+use Rattle.json_net.proofs.members.value_of.Goals as goal
+
+pub returns : goal.returns
+returns c =
+    view_of_ref c.get.result ∙ ap (option_map view) c.get.ensures.value ∙ view-lookup c.name.result.now c.args.members.now.entries
+    ∙ ap (λ (name : List ℕ). get_member name (members_view c.args.members.now.entries)) c.name.ensures

@@ -1,0 +1,7 @@
+pub mod Paths
+pub mod Filled
+pub mod Causes
+pub mod Members
+pub mod Networks
+pub mod Texts
+pub mod Reading
