@@ -1,3 +1,4 @@
+mod Answering
 mod Digits
 mod Readings
 mod Scripts

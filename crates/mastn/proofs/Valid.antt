@@ -14,13 +14,14 @@ use Rattle.cert_check.specs.Certificates.{verdict_of}
 use Rattle.mastn.specs.declared.answer.Outcome.{Outcome}
 use Rattle.mastn.specs.declared.answer.Outcome.TheVariants.{Done, Inconsistent, NetBad, NotProved, TooLarge}
 use Rattle.mastn.specs.declared.question.Question.{Question}
-use Rattle.mastn.specs.declared.question.Question.TheVariants.{Check, Certify, Verify, Upgrade}
+use Rattle.mastn.specs.declared.question.Question.TheVariants.{Check, Certify, Verify, Upgrade, Repair}
 use Rattle.mastn.specs.declared.status.Status.{Status}
 use Rattle.mastn.specs.declared.status.Status.TheVariants as status
 use Rattle.mastn.specs.Certificates.{is_too_large, SaysTooLarge, SaysCertificate, SaysVerdict, SaysChecked}
 use Rattle.mastn.specs.Checks.{Checks}
 use Rattle.mastn.specs.Gens.{Generates}
 use Rattle.mastn.specs.Laws.{IsShown, Suits, IsValidRun, IsReported, ValidInputsAreReported, GeneratedIsReported}
+use Rattle.mastn.specs.Repairs.{Repairs}
 use Rattle.mastn.specs.Questions.{OfNetwork, SaysRead, says_of}
 use Rattle.mastn.specs.Runs.{Means, MeansAlone}
 use Rattle.mastn.specs.Statuses.{status_of, meant_status}
@@ -40,6 +41,13 @@ upgraded net Inconsistent text h = absurd h
 upgraded net NetBad text h = absurd h
 upgraded net NotProved text h = absurd h
 upgraded net TooLarge text h = absurd h
+
+repaired : (net : Net) (o : Outcome) (text : List ℕ) → Repairs net o text → IsReported (status_of o)
+repaired net Done text h = inl refl
+repaired net Inconsistent text h = inr (inl refl)
+repaired net NetBad text h = absurd h
+repaired net NotProved text h = absurd h
+repaired net TooLarge text h = absurd h
 
 has_certificate : (net : Net) (o : Outcome) (text : List ℕ) → SaysCertificate net o text → IsReported (status_of o)
 has_certificate net Done text h = inl refl
@@ -73,6 +81,7 @@ reported Certify bytes read o text s h = certified (is_too_large read.net) read.
 reported Verify bytes read o text s h =
     verified (is_too_large read.net) read.net (read.lines + 1) (drop read.used bytes) o text (not_large _ s.0) s.1 h
 reported Upgrade bytes read o text s h = upgraded read.net o text h
+reported Repair bytes read o text s h = repaired read.net o text h
 
 -- no source that tells fewer bytes loses more
 not_long : (bytes : List ℕ) (after : Option (List ℕ)) → length bytes ≤ 16777216 → Loses (Some bytes) after 16777217 → ⊥

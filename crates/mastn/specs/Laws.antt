@@ -11,7 +11,7 @@ use Rattle.cert_check.specs.declared.verdict.Verdict.TheVariants as verdict
 use Rattle.cert_check.specs.Certificates.{verdict_of}
 use Rattle.mastn.specs.declared.answer.Outcome.{Outcome}
 use Rattle.mastn.specs.declared.question.Question.{Question}
-use Rattle.mastn.specs.declared.question.Question.TheVariants.{Check, Certify, Verify, Upgrade}
+use Rattle.mastn.specs.declared.question.Question.TheVariants.{Check, Certify, Verify, Upgrade, Repair}
 use Rattle.mastn.specs.declared.status.Status.{Status}
 use Rattle.mastn.specs.declared.status.Status.TheVariants.{Done, Inconsistent, OutOfMemory}
 use Rattle.mastn.specs.Gens.{Generates}
@@ -31,6 +31,7 @@ Suits Check bytes read = Unit {0}
 Suits Certify bytes read = point_count read.net ≤ most_certified
 Suits Verify bytes read = (point_count read.net ≤ most_certified) × IsShown (verdict_of read.net (read.lines + 1) (drop read.used bytes))
 Suits Upgrade bytes read = Unit {0}
+Suits Repair bytes read = Unit {0}
 
 -- a run on a valid input: the source told it, it is within the limit and such as the job asks for, and neither count of faults rose
 pub record IsValidRun (question : Question) (source left : SourceState) (sink taken : SinkState) : Type 0 where

@@ -5,6 +5,7 @@ pub mod Reports
 pub mod Checks
 pub mod Certificates
 pub mod Upgrades
+pub mod Repairs
 pub mod Gens
 pub mod Questions
 pub mod Runs

@@ -9,9 +9,10 @@ use Rattle.schedule_report.specs.Lines.{error_line}
 use Rattle.mastn.specs.declared.answer.Outcome.{Outcome}
 use Rattle.mastn.specs.declared.answer.Outcome.TheVariants.{NetBad}
 use Rattle.mastn.specs.declared.question.Question.{Question}
-use Rattle.mastn.specs.declared.question.Question.TheVariants.{Check, Certify, Verify, Upgrade}
+use Rattle.mastn.specs.declared.question.Question.TheVariants.{Check, Certify, Verify, Upgrade, Repair}
 use Rattle.mastn.specs.Certificates.{Certifies, Verifies}
 use Rattle.mastn.specs.Checks.{Checks}
+use Rattle.mastn.specs.Repairs.{Repairs}
 use Rattle.mastn.specs.Upgrades.{Upgrades}
 
 -- the outcome and the text for the network that an input begins with, and for what follows its text
@@ -20,6 +21,7 @@ OfNetwork Check bytes read outcome text = Checks read.net outcome text
 OfNetwork Certify bytes read outcome text = Certifies read.net outcome text
 OfNetwork Verify bytes read outcome text = Verifies read.net (read.lines + 1) (drop read.used bytes) outcome text
 OfNetwork Upgrade bytes read outcome text = Upgrades read.net outcome text
+OfNetwork Repair bytes read outcome text = Repairs read.net outcome text
 
 -- an input that begins with no network has its first failing line and the first test that this line fails
 abbrev pub SaysRead : (NetRead → Outcome → List ℕ → Type 0) → Result NetRead TextError → Outcome → List ℕ → Type 0

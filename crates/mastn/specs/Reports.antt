@@ -1,4 +1,4 @@
--- Whole texts that a job writes: refusal_line, consistent_report, inconsistent_report, verified_consistent, verified_inconsistent.
+-- Whole texts that a job writes: refusal_line, consistent_report, summed_cycle, inconsistent_report, verified_consistent, verified_inconsistent.
 use Rattle.std.specs.Prelude.{ℕ, ℤ, true, false, List, [], ◌∷◌, ◌++◌, codes}
 use Rattle.stn_model.specs.Net.{Net, arcs_of}
 use Rattle.stn_model.specs.Walks.{weight}
@@ -14,9 +14,13 @@ refusal_line cause = error_line 0 cause []
 abbrev pub consistent_report : Net → List ℤ → List ℕ
 consistent_report net times = verdict_line true ++ times_part net times
 
+-- a cycle with its sum
+abbrev pub summed_cycle : Net → List ℕ → List ℕ
+summed_cycle net walk = cycle_part net walk (weight (arcs_of net) walk)
+
 -- a cycle of an inconsistent network, with its sum
 abbrev pub inconsistent_report : Net → List ℕ → List ℕ
-inconsistent_report net walk = verdict_line false ++ cycle_part net walk (weight (arcs_of net) walk)
+inconsistent_report net walk = verdict_line false ++ summed_cycle net walk
 
 -- a certificate that shows what it should
 abbrev pub verified_consistent : List ℕ

@@ -1,9 +1,10 @@
 //! The answer of `check`.
-ghost use Rattle.std.specs.Prelude.{◌≡◌, IfOk};
+ghost use Rattle.std.specs.Prelude.{◌≡◌, ◌++◌, IfOk, OnOk};
 ghost use Rattle.stn_model.specs.Net.{arcs_of};
 ghost use Rattle.stn_model.specs.Walks as walks;
 ghost use Rattle.plain_solve.specs.Answers.{IsEarliest};
 ghost use Rattle.mastn.specs.Checks.{Checks};
+ghost use Rattle.mastn.specs.Reports.{summed_cycle};
 
 use crate::answer::{Answer, Outcome};
 use plain_solve::{Plain, plain_solve};
@@ -23,7 +24,7 @@ pub fn check(alloc: Global, net: &Network) -> Result<Answer, OutOfMemory>
 }
 
 /// The answer for a consistent network, by its earliest schedule.
-fn consistent(alloc: Global, net: &Network, schedule: &Schedule) -> Result<Answer, OutOfMemory>
+pub fn consistent(alloc: Global, net: &Network, schedule: &Schedule) -> Result<Answer, OutOfMemory>
     requires { IsEarliest net.now schedule.now }
     ensures { IfOk result (λ a. Checks net.now a.outcome a.text.items) }
 {
@@ -44,11 +45,19 @@ fn inconsistent(alloc: Global, net: &Network, cycle: &Walk) -> Result<Answer, Ou
 {
     let mut text = Vec::new(alloc);
     verdict(false, &mut text)?;
-    cycle_part(net, cycle, sum_of(net, cycle), &mut text)?;
+    add_cycle(net, cycle, &mut text)?;
     Ok(Answer {
         outcome: Outcome::Inconsistent,
         text,
     })
+}
+
+/// Appends a negative cycle with its sum.
+pub fn add_cycle(net: &Network, cycle: &Walk, text: &mut Vec<u8>) -> Result<(), OutOfMemory>
+    requires { walks.IsNegativeCycle (arcs_of net.now) cycle.now }
+    ensures { OnOk result (text.new.items ≡ text.old.items ++ summed_cycle net.now cycle.now) }
+{
+    cycle_part(net, cycle, sum_of(net, cycle), text)
 }
 
 /// The sum of a cycle's bounds.

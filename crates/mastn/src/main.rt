@@ -8,6 +8,7 @@ mod generate;
 mod laws;
 mod limits;
 mod question;
+mod repair;
 mod run;
 mod status;
 #[cfg(test)]

@@ -6,6 +6,7 @@ ghost use Rattle.mastn.specs.Questions.{OfNetwork, says_of};
 use crate::answer::{Answer, Outcome, refusal};
 use crate::certify::{certify, verify};
 use crate::check::check;
+use crate::repair::repair;
 use crate::upgrade::upgrade;
 use net_text::{NetRead, TextError, read_net};
 use std::alloc::Global;
@@ -20,6 +21,7 @@ pub enum Question {
     Certify,
     Verify,
     Upgrade,
+    Repair,
 }
 
 impl Question {
@@ -52,6 +54,7 @@ impl Question {
             Question::Certify => certify(alloc, &read.net),
             Question::Verify => verify(alloc, &read.net, &bytes[read.used..], read.lines + 1),
             Question::Upgrade => upgrade(alloc, &read.net),
+            Question::Repair => repair(alloc, &read.net),
         }
     }
 }

@@ -41,6 +41,8 @@ pub fn run<S: Source, K: Sink>(
         → Runs (says_of question.Verify) (S.state source.old) (S.state source.new) (K.state sink.old) (K.state sink.new) result }
     ensures upgrade { job_of (map (λ w. w.items) words.now) ≡ Some job.Upgrade
         → Runs (says_of question.Upgrade) (S.state source.old) (S.state source.new) (K.state sink.old) (K.state sink.new) result }
+    ensures repair { job_of (map (λ w. w.items) words.now) ≡ Some job.Repair
+        → Runs (says_of question.Repair) (S.state source.old) (S.state source.new) (K.state sink.old) (K.state sink.new) result }
     // Nothing is read.
     ensures generated { (number size : ℕ) → job_of (map (λ w. w.items) words.now) ≡ Some (job.Gen number size) → (source.new ≡ source.old)
         × RunsAlone (Generates number size) (K.state sink.old) (K.state sink.new) result }
@@ -53,6 +55,7 @@ pub fn run<S: Source, K: Sink>(
         Some(Job::Certify) => run_certify(alloc, source, sink),
         Some(Job::Verify) => run_verify(alloc, source, sink),
         Some(Job::Upgrade) => run_upgrade(alloc, source, sink),
+        Some(Job::Repair) => run_repair(alloc, source, sink),
         Some(Job::Gen { number, size }) => run_gen(alloc, number, size, sink),
     }
 }
@@ -91,6 +94,16 @@ pub fn run_upgrade<S: Source, K: Sink>(alloc: Global, source: &mut S, sink: &mut
     ensures writes_later { (K.state sink.old).faults ≤ (K.state sink.new).faults }
 {
     run_question(alloc, Question::Upgrade, source, sink)
+}
+
+/// Reads a network and reports its earliest schedule; or a negative cycle, and for each given arc of it, in its order, by how much it must at
+/// least be loosened. What follows the `end` line of the network is not looked at.
+pub fn run_repair<S: Source, K: Sink>(alloc: Global, source: &mut S, sink: &mut K) -> Status
+    ensures repair { Runs (says_of question.Repair) (S.state source.old) (S.state source.new) (K.state sink.old) (K.state sink.new) result }
+    ensures reads_later { (S.state source.old).faults ≤ (S.state source.new).faults }
+    ensures writes_later { (K.state sink.old).faults ≤ (K.state sink.new).faults }
+{
+    run_question(alloc, Question::Repair, source, sink)
 }
 
 /// Reads an input to its end, and writes the answer to a question.

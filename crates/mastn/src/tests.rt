@@ -74,9 +74,9 @@ fn words_have_their_answers(rt: HostRuntime) -> Result<(), Fail> {
 
 #[test]
 fn inputs_have_their_answers(rt: HostRuntime) -> Result<(), Fail> {
-    let (check, upgrade): (&[u8], &[u8]) = (b"check", b"upgrade");
+    let (check, upgrade, repair): (&[u8], &[u8], &[u8]) = (b"check", b"upgrade", b"repair");
     let (certify, verify): (&[u8], &[u8]) = (b"certify", b"verify");
-    let cases: [(&[u8], &[u8], Status, &[u8]); 15] = [
+    let cases: [(&[u8], &[u8], Status, &[u8]); 17] = [
         (check, b"", Status::NetBad, b"error 1 NoHeader\n"),
         (
             check,
@@ -115,6 +115,13 @@ fn inputs_have_their_answers(rt: HostRuntime) -> Result<(), Fail> {
             b"mastn 2\nhorizon 10\nagent x early\npoint x a\npoint x b\narc a b 3\narc b a -5\nend\n",
         ),
         (upgrade, b"mastn 3\n", Status::NetBad, b"error 1 Version\n"),
+        (repair, STORED, Status::Done, b"consistent\ntime a 0\n"),
+        (
+            repair,
+            CONFLICT,
+            Status::Inconsistent,
+            b"inconsistent\ncycle -2 2\narc 4 a b 3\narc 5 b a -5\nrepair 4 2\ntime a 0\ntime b 5\ncycle -1 2\narc 4 a b 4\narc 5 b a -5\nrepair 5 2\ntime a 0\ntime b 3\ncycle -1 2\narc 4 a b 3\narc 5 b a -4\n",
+        ),
         (certify, STORED, Status::Done, CERTIFICATE),
         (
             certify,

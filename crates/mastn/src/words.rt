@@ -16,6 +16,8 @@ pub enum Job {
     Verify,
     /// `upgrade`: read a network and write it in version 2 of the text.
     Upgrade,
+    /// `repair`: read a network and loosen the arcs of one of its conflicts.
+    Repair,
     /// `gen NUMBER SIZE`: write the generated network of that number and size.
     Gen { number: u32, size: u32 },
 }
@@ -49,6 +51,9 @@ fn read_lone(word: &[u8]) -> Option<Job>
     }
     if word == b"upgrade".as_slice() {
         return Some(Job::Upgrade);
+    }
+    if word == b"repair".as_slice() {
+        return Some(Job::Repair);
     }
     None
 }

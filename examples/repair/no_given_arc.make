@@ -1,0 +1,2 @@
+#!/usr/bin/env bash
+cat ../acts/too_short.stn
