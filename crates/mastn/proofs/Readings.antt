@@ -1,5 +1,5 @@
 -- What became of a source whose input was not answered.
-use Rattle.std.proofs.Common.{◌≡◌, ◌≢◌, ℕ, ◌+◌, ◌≤◌, List, [], length, drop, Option, None, Some, IfSome, refl, sym, subst, arith}
+use Rattle.std.proofs.Common.{◌≡◌, ◌≢◌, ℕ, ◌+◌, List, [], length, Option, None, Some, IfSome, refl, sym, subst, arith}
 use Rattle.std.proofs.lemmas.List.{drop_all}
 use Rattle.stn_io.specs.Bytes.{Loses, LosesAtMost}
 use Rattle.stn_io.specs.Causes.{Rose}

@@ -1,5 +1,5 @@
 -- The laws of valid inputs.
-use Rattle.std.proofs.Common.{◌≡◌, ℕ, ◌+◌, ◌≤◌, ◌⊎◌, inl, inr, ⊎_elim, Bool, true, false, List, length, drop, Option, None, Some, Result, Ok, Err, refl, sym, subst, ◌∙◌, arith, nat_lt, MatchBool}
+use Rattle.std.proofs.Common.{◌≡◌, ℕ, ◌+◌, ◌≤◌, ◌⊎◌, inl, inr, ⊎_elim, Bool, true, false, List, length, drop, Option, None, Some, Result, Ok, Err, refl, subst, arith, nat_lt, MatchBool}
 use Rattle.std.proofs.lemmas.Bool.Decides.{nat_tests}
 use Rattle.stn_io.specs.Bytes.{Loses}
 use Rattle.stn_io.specs.States.{SourceState, SinkState}
@@ -7,7 +7,6 @@ use Rattle.stn_io.specs.declared.whole.ReadRefusal.{ReadRefusal}
 use Rattle.stn_io.specs.declared.whole.ReadRefusal.TheVariants as refusal
 use Rattle.stn_model.specs.Net.{Net}
 use Rattle.net_text.specs.declared.read.NetRead.{NetRead}
-use Rattle.net_text.specs.Networks.{text_of}
 use Rattle.cert_check.specs.declared.verdict.Verdict.{Verdict}
 use Rattle.cert_check.specs.declared.verdict.Verdict.TheVariants as verdict
 use Rattle.cert_check.specs.Certificates.{verdict_of}

@@ -1,10 +1,9 @@
 -- The law that what is certified is verified.
-use Rattle.std.proofs.Common.{◌≡◌, ℕ, ◌+◌, ◌≤◌, ◌++◌, Bool, true, false, List, length, take, drop, min, sym, subst, ◌∙◌, arith, MatchBool}
+use Rattle.std.proofs.Common.{◌≡◌, ℕ, ◌+◌, ◌≤◌, ◌++◌, Bool, true, false, List, length, take, drop, sym, subst, ◌∙◌, MatchBool}
 use Rattle.std.proofs.Math.Seq.{drop-append_seam}
 use Rattle.std.proofs.lemmas.List.{length-take-le}
 use Rattle.stn_model.specs.Net.{Net}
 use Rattle.net_text.proofs.ReadPrefix.{prefix_is_read}
-use Rattle.cert_check.specs.declared.verdict.Verdict.TheVariants as verdict
 use Rattle.mastn.specs.declared.answer.Outcome.{Outcome}
 use Rattle.mastn.specs.declared.answer.Outcome.TheVariants.{Done, Inconsistent, NetBad, NotProved, TooLarge}
 use Rattle.mastn.specs.declared.question.Question.TheVariants.{Certify, Verify}

@@ -1,5 +1,5 @@
 -- Lists of words that are no job by their number.
-use Rattle.std.proofs.Common.{◌≡◌, ℕ, ◌<◌, ◌≤◌, List, [], ◌∷◌, length, Option, None, refl, arith}
+use Rattle.std.proofs.Common.{◌≡◌, ℕ, ◌<◌, ◌≤◌, List, [], ◌∷◌, length, None, refl, arith}
 use Rattle.mastn.specs.Jobs.{job_of}
 
 pub two_words : (ws : List (List ℕ)) → 2 ≤ length ws → length ws < 3 → None ≡ job_of ws

@@ -1,5 +1,5 @@
 -- What a run answers, what it takes of its source, and what its sink takes: Writes, ReadsWhole, Means, Runs, MeansAlone, RunsAlone.
-use Rattle.std.specs.Prelude.{◌≡◌, ℕ, ◌+◌, ◌≤◌, ◌⊎◌, List, [], length, codes, Result, Ok, Err, Option, Some, IfSome}
+use Rattle.std.specs.Prelude.{◌≡◌, ℕ, ◌+◌, ◌≤◌, ◌⊎◌, List, [], length, codes, Result, Ok, Err, Some, IfSome}
 use Rattle.std.specs.Io.KnownBytes.{Appends}
 use Rattle.stn_io.specs.Causes.{Rose}
 use Rattle.stn_io.specs.Bytes.{Loses, LosesAtMost, TakesFront}

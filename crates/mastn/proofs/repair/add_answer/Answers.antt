@@ -1,4 +1,4 @@
-use Rattle.std.proofs.Common.{◌≡◌, ℕ, ℤ, pos, ◌+ℤ◌, ◌-ℤ◌, List, ◌++◌, Some, None, refl, sym, ap, ap₂, subst, ◌∙◌, append_assoc, to_z, of_z, true, false, inl, inr, arith}
+use Rattle.std.proofs.Common.{◌≡◌, ℕ, ℤ, pos, ◌-ℤ◌, List, ◌++◌, Some, None, refl, sym, ap, ap₂, subst, ◌∙◌, append_assoc, to_z, of_z, inl, inr, arith}
 use mir.Syntax.{w128}
 use Rattle.std.proofs.lemmas.Int.{ints}
 use Rattle.std.proofs.lemmas.Result.{on_ok_weaker}
@@ -9,7 +9,6 @@ use Rattle.least_repair.specs.Loosened.{loosened}
 use Rattle.schedule_report.specs.Lines.{repair_line}
 use Rattle.schedule_report.specs.Parts.{times_part}
 use Rattle.mastn.specs.Reports.{summed_cycle}
-use Rattle.mastn.specs.Repairs.{IsAnswer, Adds}
 use Rattle.mastn.proofs.repair.add_answer.Goals as goal
 
 pub add_loosened-requires-clause-raises : goal.add_loosened-requires-clause-raises

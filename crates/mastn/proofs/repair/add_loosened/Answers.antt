@@ -1,4 +1,4 @@
-use Rattle.std.proofs.Common.{◌≡◌, ℤ, refl, ap, to_z, of_z, w64, arith}
+use Rattle.std.proofs.Common.{ap, arith}
 use Rattle.std.proofs.lemmas.Int.{ints}
 use Rattle.least_repair.proofs.OtherBound.{given_in_range}
 use Rattle.mastn.proofs.Answering.{set_back}
