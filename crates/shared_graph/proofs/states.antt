@@ -8,3 +8,4 @@ pub mod Faults
 pub mod Stops
 pub mod Progress
 pub mod Rising
+pub mod Grounds

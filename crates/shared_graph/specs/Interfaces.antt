@@ -1,11 +1,12 @@
 -- What all agents know of a network from the start: SharedPoint, InterfaceView, points_of, owner_among, owner_in, is_listed, shared_points,
 -- interface_of, Summary, IsEnd, IsFitting, IsInterface.
-use Rattle.std.specs.Prelude.{◌≡◌, ◌≢◌, ℕ, zero, suc, ◌+◌, ◌*◌, ◌<◌, ◌≤◌, ℤ, pos, ◌≤ℤ◌, Bool, true, ◌==◌, List, [], ◌∷◌, ◌++◌, map, length, slice_index_or}
+use Rattle.std.specs.Prelude.{◌≡◌, ◌≢◌, ℕ, zero, suc, ◌+◌, ◌*◌, ◌<◌, ◌≤◌, ℤ, pos, nat_abs, ◌≤ℤ◌, Bool, true, ◌==◌, List, [], ◌∷◌, ◌++◌, map, length}
+use Rattle.std.specs.Prelude.{slice_index_or}
 use Rattle.std.specs.Prelude.{Option, Some, None, is_some, if◌then◌else◌, Contains, ◌⊎◌}
 use Rattle.std.specs.List.{All, AllPairs, list_any}
 use Rattle.stn_model.specs.declared.ids.Constraint.{Constraint}
 use Rattle.stn_model.specs.declared.ids.Lean.{Lean}
-use Rattle.stn_model.specs.Limits.{most_agents, most_points, most_arcs, greatest_bound}
+use Rattle.stn_model.specs.Limits.{most_agents, most_points, most_arcs, greatest_bound, greatest_walk}
 use Rattle.stn_model.specs.Net.{Net, no_place}
 use Rattle.stn_model.specs.Valid.{IsArcWithin}
 use Rattle.stn_model.specs.Kinds.{is_shared, names_point}
@@ -64,9 +65,12 @@ Summary = List SummaryEntry
 abbrev pub IsEnd : InterfaceView → ℕ → ℕ → Type 0
 IsEnd face agent p = (p ≡ 0) ⊎ (owner_in face p ≡ Some agent)
 
--- the summary names only z and shared points of the agent; its pairs are of different points, as those of every summary are
+-- the summary names only z and shared points of the agent; as in every summary, its pairs are of different points and its weights of magnitude at
+-- most 2^53
 abbrev pub IsFitting : InterfaceView → ℕ → Summary → Type 0
-IsFitting face agent entries = (e : SummaryEntry) → Contains entries e → IsEnd face agent e.from.0 × IsEnd face agent e.to.0 × (e.from.0 ≢ e.to.0)
+IsFitting face agent entries =
+    (e : SummaryEntry) → Contains entries e
+    → IsEnd face agent e.from.0 × IsEnd face agent e.to.0 × (e.from.0 ≢ e.to.0) × (nat_abs e.weight ≤ greatest_walk)
 
 -- within the limits of a network; z is not listed, points rise, and their owners are agents; external arcs join different listed points of
 -- different owners, and name each listed point

@@ -1,7 +1,8 @@
 -- What holds of the steps of a shared graph, and of what they say of a network: StartHolds, EntriesKeep, ReplaysHold, OfReplays, StopsShow, WholeOrdersShow,
 -- WholeWeightsAreBounds, FinalsAreBounds, RevisitsSum, IsSameOutside, InterfacesAgree, ReplaysAgree, StopsExcludeWholeOrders, WholeWeightsAgree,
 -- PublishesLower, EliminationsLower, NeighboursJoin, RevisitsMake, JoinedIsJoined, IsFirstFault, FaultsAreFirst, EliminationsJoin, RevisitsKeep,
--- LeastNegativesAreLeast, FirstsAreLeast, InterfacesList, IsSameBut, SummariesCarryOver, NegativesStop, StepsGoOn.
+-- LeastNegativesAreLeast, FirstsAreLeast, StatesHaveGround, InterfacesList, IsSameBut, SummariesCarryOver, NegativesStop, StepsGoOn,
+-- IsSameButTimes, TimesStandApart.
 use Rattle.std.specs.Prelude.{◌≡◌, ◌≢◌, ◌↔◌, ℕ, ◌<◌, ℤ, Bool, true, false, ◌&&◌, ◌||◌, not, ◌==◌, if◌then◌else◌, List, ◌∷◌, map, reverse, length, ◌++◌}
 use Rattle.std.specs.Prelude.{is_some, Some, None, ◌⊎◌}
 use Rattle.stn_model.specs.Net.{Net, arcs_of, point_count, owner_of}
@@ -13,11 +14,14 @@ use Rattle.stn_model.specs.Summaries.{IsSummary}
 use Rattle.stn_model.specs.Schedules.{IsConsistent, IsLeastBound}
 use Rattle.meeting_arcs.specs.Meeting.{meets}
 use Rattle.elim_step.specs.Summaries.{entry_of}
+use Rattle.elim_step.specs.Eliminated.{IsGround}
 use Rattle.shared_graph.specs.declared.events.SharedCycle.{SharedCycle}
 use Rattle.shared_graph.specs.declared.events.By.{By}
 use Rattle.shared_graph.specs.declared.events.Entry.{Entry}
 use Rattle.shared_graph.specs.declared.events.By.TheVariants.{Joiner}
-use Rattle.shared_graph.specs.declared.events.Event.TheVariants.{Publish, Eliminate, Revisit, Stop}
+use Rattle.shared_graph.specs.declared.events.Event.TheVariants.{Publish, Eliminate, Revisit, Stop, Assign, Widen}
+use Rattle.shared_graph.specs.declared.events.End.{End}
+use Rattle.stn_model.specs.declared.ids.PointId.{PointId}
 use Rattle.shared_graph.specs.Interfaces.{InterfaceView, Summary, IsInterface, IsFitting, interface_of, owner_in, points_of, is_listed}
 use Rattle.shared_graph.specs.States.{agent_id, point_id, State, start, is_revisited, agent_arcs, meeting_of, is_published}
 use Rattle.shared_graph.specs.Weights.{forward, is_joined, is_later, final, final_weight, later_neighbours, is_negative, first_passing, least_negative}
@@ -205,6 +209,12 @@ FirstsAreLeast =
     × ((n : ℕ) → first_below test n ≡ None → (a : ℕ) → a < n → test a ≡ false)
     × ((n i : ℕ) → first_below test n ≡ Some i → (i < n) × (test i ≡ true) × ((a : ℕ) → a < i → test a ≡ false))
 
+-- the meeting arcs of a state that holds together join the places of z and the shared points, and weigh little, so that the steps of eliminations over
+-- rows of cells are steps of it
+abbrev pub StatesHaveGround : Type 0
+StatesHaveGround =
+    (face : InterfaceView) → IsInterface face → (s : State) → HoldsTogether face s → IsGround (0 ∷ points_of face) (meeting_of face s)
+
 -- the interface of a network is one, and has exactly the shared points, with their owners in the network
 abbrev pub InterfacesList : Type 0
 InterfacesList =
@@ -240,3 +250,19 @@ StepsGoOn =
     ⊎ ((i : ℕ) × (refusal face s (record { by = Joiner; event = Stop (point_id k) (point_id i) }) ≡ None)))
     × (IsAllPublished face s → IsWhole face s → (k : ℕ) → is_listed face k ≡ true → is_in s.revisited k ≡ false
     → (m : ℕ) × (is_listed face m ≡ true) × (refusal face s (record { by = Joiner; event = Revisit (point_id m) }) ≡ None))
+
+-- times and ends change no cell, no joined pair and nothing else of the state
+pub record IsSameButTimes (face : InterfaceView) (s t : State) : Type 0 where
+  pub published : t.published ≡ s.published
+  pub order : t.order ≡ s.order
+  pub stop : t.stop ≡ s.stop
+  pub revisited : t.revisited ≡ s.revisited
+  pub forwards : (i j : ℕ) → forward face t i j ≡ forward face s i j
+  pub joins : (i j : ℕ) → is_joined face t i j ≡ is_joined face s i j
+  pub finals : (i j : ℕ) → final face t i j ≡ final face s i j
+
+abbrev pub TimesStandApart : Type 0
+TimesStandApart =
+    (face : InterfaceView) (summaries : List Summary) (s : State)
+    → ((k : PointId) (value : ℤ) → IsSameButTimes face s (after face summaries s (Assign k value)))
+    × ((k : PointId) (end : End) → IsSameButTimes face s (after face summaries s (Widen k end)))

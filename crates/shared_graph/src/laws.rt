@@ -3,7 +3,7 @@ ghost use Rattle.shared_graph.specs.Examples.{ExamplesHold};
 ghost use Rattle.shared_graph.specs.Laws.{StartHolds, EntriesKeep, ReplaysHold, StopsShow, WholeOrdersShow, WholeWeightsAreBounds, FinalsAreBounds};
 ghost use Rattle.shared_graph.specs.Laws.{RevisitsSum, InterfacesAgree, ReplaysAgree, StopsExcludeWholeOrders, WholeWeightsAgree, PublishesLower};
 ghost use Rattle.shared_graph.specs.Laws.{EliminationsLower, NeighboursJoin, RevisitsMake, JoinedIsJoined, FaultsAreFirst, EliminationsJoin};
-ghost use Rattle.shared_graph.specs.Laws.{RevisitsKeep, LeastNegativesAreLeast, FirstsAreLeast, InterfacesList, SummariesCarryOver, NegativesStop, StepsGoOn};
+ghost use Rattle.shared_graph.specs.Laws.{RevisitsKeep, LeastNegativesAreLeast, FirstsAreLeast, StatesHaveGround, InterfacesList, SummariesCarryOver, NegativesStop, StepsGoOn, TimesStandApart};
 
 /// The state in which nothing is done holds together.
 pub fn start_holds()
@@ -115,6 +115,11 @@ pub fn firsts_are_least()
     ensures { FirstsAreLeast }
 {}
 
+/// The meeting arcs of a state are such as eliminations over rows of cells want.
+pub fn states_have_ground()
+    ensures { StatesHaveGround }
+{}
+
 /// The interface of a network has exactly its shared points, with their owners.
 pub fn interfaces_list()
     ensures { InterfacesList }
@@ -138,4 +143,9 @@ pub fn examples_hold()
 /// Some step of the joiner is legal until a stop, or until all is published, eliminated and revisited.
 pub fn steps_go_on()
     ensures { StepsGoOn }
+{}
+
+/// Assigning and widening change no cell, no joined pair and nothing else of the state but times and ends.
+pub fn times_stand_apart()
+    ensures { TimesStandApart }
 {}

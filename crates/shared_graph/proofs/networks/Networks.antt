@@ -29,6 +29,7 @@ use Rattle.shared_graph.specs.Replays.{summary_of, plain_entries, AreRight}
 use Rattle.elim_step.specs.declared.summary.SummaryEntry.{SummaryEntry}
 use Rattle.elim_step.specs.Summaries.{entry_of}
 use Rattle.shared_graph.proofs.networks.PlainEntries.{plain_at}
+use Rattle.shared_graph.proofs.networks.LightEntries.{entry_light}
 use Rattle.shared_graph.specs.Together.{IsAllPublished}
 use Rattle.shared_graph.proofs.states.Listed.{AreListed}
 use Rattle.meeting_arcs.proofs.MeetingLists.{map_contains, contains_map}
@@ -61,8 +62,10 @@ module _ (net : Net) (valid : IsNetwork net) where
   summary_fits agent entries right e h =
       let holds : Entry → Type 0 = λ f. IsSeenPair net agent f.from f.to × IsEntryWeight net agent f.from f.to f.weight in
       let there = contains_map entry_of entries e h in
-      let pair = (All-contains holds (map entry_of entries) (entry_of e) (All-from_recursion holds (map entry_of entries) right.weights) there).0 in
-      (seen_end agent e.from.0 pair.from, seen_end agent e.to.0 pair.to, pair.different)
+      let each = (All-contains holds (map entry_of entries) (entry_of e) (All-from_recursion holds (map entry_of entries) right.weights) there) in
+      let pair = each.0 in
+      let light = entry_light net valid agent e.from.0 e.to.0 e.weight right.sound each.1 in
+      (seen_end agent e.from.0 pair.from, seen_end agent e.to.0 pair.to, pair.different, light)
 
   module _ (summaries : List Summary) (right : AreRight net summaries) where
     right_at : (a : ℕ) → a < length net.agents → IsSummary net a (map entry_of (summary_of summaries a))

@@ -70,7 +70,7 @@ module _ (face : InterfaceView) (known : IsInterface face) where
   agent_arc p fits a h =
       elim (Contains-append_cases (agent_pairs face p.agent (points_of face)) (map summary_arc p.entries) a h) [
         | inl pair ↦ pairs_arcs p.agent (points_of face) a pair
-        | inr entry ↦ (let e = map_contains summary_arc p.entries a entry in subst (IsAgentArc face p.agent) (sym e.2) (fits e.0 e.1))
+        | inr entry ↦ (let e = map_contains summary_arc p.entries a entry in let f = fits e.0 e.1 in subst (IsAgentArc face p.agent) (sym e.2) (f.0, f.1, f.2))
       ]
 
   place_of_end : (agent p : ℕ) → IsEnd face agent p → IsPlace face p

@@ -20,7 +20,7 @@ use Rattle.shared_graph.proofs.states.Keeps.{IsSound, cells_hold, joined_place, 
 use Rattle.shared_graph.proofs.networks.Verdicts.{below_there, three_true}
 
 -- the numbers rise, from low on
-abbrev Rises : ℕ → List ℕ → Type 0
+abbrev pub Rises : ℕ → List ℕ → Type 0
 Rises low [] = Unit {0}
 Rises low (x ∷ xs) = (low ≤ x) × Rises (suc x) xs
 
