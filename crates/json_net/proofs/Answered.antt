@@ -26,7 +26,8 @@ ok_value : (v : Option Data) (net : Net) → said v ≡ Ok net → (d : Data) ×
 ok_value None net e = absurd (cc)
 ok_value (Some d) net e = (d, refl, e)
 
-at_value : (v : Option Data) (path : List Step) (cause : JsonCause) → said v ≡ Err (At path cause) → (d : Data) × (v ≡ Some d) × (network_of d ≡ Err (At path cause))
+at_value : (v : Option Data) (path : List Step) (cause : JsonCause) → said v ≡ Err (At path cause)
+    → (d : Data) × (v ≡ Some d) × (network_of d ≡ Err (At path cause))
 at_value None path cause e = absurd (cc)
 at_value (Some d) path cause e = (d, refl, e)
 
@@ -35,7 +36,8 @@ bad_value None e = refl
 bad_value (Some d) e = absurd (never_bad d e)
 
 pub answers_ok : (bytes : List ℕ) (r : Answer) → IsRead r (said (value_of bytes)) → UnlessMemory r ((net : Net) → (r ≡ Ok net) ↔ SaysNetwork bytes net)
-answers_ok bytes r h = unless_memory r (said (value_of bytes)) _ h (λ same net. (λ is. ok_value (value_of bytes) net (same ∙ is), λ p. sym same ∙ ap said p.1 ∙ p.2))
+answers_ok bytes r h =
+    unless_memory r (said (value_of bytes)) _ h (λ same net. (λ is. ok_value (value_of bytes) net (same ∙ is), λ p. sym same ∙ ap said p.1 ∙ p.2))
 
 pub answers_at : (bytes : List ℕ) (r : Answer) → IsRead r (said (value_of bytes))
     → UnlessMemory r ((path : List Step) (cause : JsonCause) → (r ≡ Err (At path cause)) ↔ FailsAt bytes path cause)

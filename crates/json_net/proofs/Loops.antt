@@ -12,10 +12,13 @@ use Rattle.json_net.specs.Members.{and_then}
 use Rattle.json_net.specs.Networks.{read_each}
 
 -- what is left from a place on is the item there and what follows
-items_left : (vs : List Value) (i : ℕ) (v : Value) → i < length vs → v ≡ get_or vs i v → items_view (drop i vs) ≡ item (view v) (items_view (drop (i + 1) vs))
-items_left vs i v within is = ap items_view (drop_more vs i v within) ∙ ap (λ (x : Value). item (view x) (items_view (drop (i + 1) vs))) (sym is)
+items_left : (vs : List Value) (i : ℕ) (v : Value) → i < length vs → v ≡ get_or vs i v
+    → items_view (drop i vs) ≡ item (view v) (items_view (drop (i + 1) vs))
+items_left vs i v within is =
+    ap items_view (drop_more vs i v within) ∙ ap (λ (x : Value). item (view x) (items_view (drop (i + 1) vs))) (sym is)
 
-module _ (read : List Step → Net → Data → Result Net JsonError) (path : List Step) (net : Net) (vs : List Value) (i : ℕ) (v : Value) (step : Step) (at : List Step) where
+module _ (read : List Step → Net → Data → Result Net JsonError) (path : List Step) (net : Net)
+    (vs : List Value) (i : ℕ) (v : Value) (step : Step) (at : List Step) where
   -- an item that is read as it should be
   pub item_read : (now : Net) → i < length vs → v ≡ get_or vs i v → step ≡ Item i → at ≡ path ++ step ∷ [] → read at net (view v) ≡ Ok now
       → read_each read path net i (items_view (drop i vs)) ≡ read_each read path now (i + 1) (items_view (drop (i + 1) vs))

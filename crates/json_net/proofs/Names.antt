@@ -21,12 +21,14 @@ only_names keys [] = refl
 only_names keys (e ∷ es) = ap (λ b. is_among keys (string_bytes e.0) && b) (only_names keys es)
 
 -- what is left after a name that is a key
-pub names_left : (keys : List JsonKey) (b : Bool) (before after : List (String Global)) (name : String Global) → b ≡ are_among keys before → before ≡ name ∷ after
+pub names_left : (keys : List JsonKey) (b : Bool) (before after : List (String Global)) (name : String Global)
+    → b ≡ are_among keys before → before ≡ name ∷ after
     → is_among keys (string_bytes name) ≡ true → b ≡ are_among keys after
 names_left keys b before after name is split among = is ∙ ap (are_among keys) split ∙ ap (λ t. t && are_among keys after) among
 
 -- a name that is no key
-pub another_name : (keys : List JsonKey) (b : Bool) (before after : List (String Global)) (name : String Global) → b ≡ are_among keys before → before ≡ name ∷ after
+pub another_name : (keys : List JsonKey) (b : Bool) (before after : List (String Global)) (name : String Global)
+    → b ≡ are_among keys before → before ≡ name ∷ after
     → is_among keys (string_bytes name) ≡ false → b ≡ false
 another_name keys b before after name is split other = is ∙ ap (are_among keys) split ∙ ap (λ t. t && are_among keys after) other
 

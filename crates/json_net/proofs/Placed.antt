@@ -61,7 +61,9 @@ placed_bound path ms e = grind arith
 
 placed_arc : (path : List Step) (d : Data) → IsPlaced (arc_shape path d)
 placed_arc path d =
-    placed_then (object path d) _ (placed_or (as_object d) path JsonKind) (λ ms. placed_then (value_at path ms From) _ (placed_or (get_member (key_name From) ms) path JsonMissing) (λ from. placed_then (value_at path ms To) _ (placed_or (get_member (key_name To) ms) path JsonMissing) (λ to.
+    placed_then (object path d) _ (placed_or (as_object d) path JsonKind) (λ ms.
+    placed_then (value_at path ms From) _ (placed_or (get_member (key_name From) ms) path JsonMissing) (λ from.
+    placed_then (value_at path ms To) _ (placed_or (get_member (key_name To) ms) path JsonMissing) (λ to.
     placed_then (bound_shape path ms) _ (placed_bound path ms) (λ bounds. placed_ok _))))
 
 placed_unless : (path : List Step) (r : Option NetError) (net : Net) → IsPlaced (unless path r net)
@@ -118,7 +120,8 @@ placed_point_or_act None agent path net d = placed_read_act agent path net d
 
 placed_bounds : (path : List Step) (net : Net) (from to : ℕ) (b : BoundShape) → IsPlaced (read_bounds path net from to b)
 placed_bounds path net from to (Bound d) =
-    placed_then _ _ (placed_number (path ++ Key key.Bound ∷ []) d) (λ b. placed_unless path (arc_refusal net from to b) (with_arcs net (arc_between from to b ∷ [])))
+    placed_then _ _ (placed_number (path ++ Key key.Bound ∷ []) d) (λ b.
+    placed_unless path (arc_refusal net from to b) (with_arcs net (arc_between from to b ∷ [])))
 placed_bounds path net from to (Between low high) =
     placed_then _ _ (placed_number (path ++ Key Low ∷ []) low) (λ l. placed_then _ _ (placed_number (path ++ Key High ∷ []) high) (λ h.
     placed_unless path (both_refusal net from to l h) (with_arcs net (arc_between from to h ∷ arc_between to from (neg_ℤ l) ∷ []))))
@@ -128,7 +131,8 @@ placed_read_agent path net d =
     placed_then _ _ (placed_agent path d) (λ s. placed_then _ _ (placed_text (path ++ Key Name ∷ []) s.name) (λ name.
     placed_then _ _ (placed_lean (path ++ Key Lean ∷ []) s.lean) (λ lean.
     placed_then _ _ (placed_unless (path ++ Key Name ∷ []) (agent_refusal net name) (with_agent net name lean)) (λ grown.
-    placed_array (read_point (length net.agents)) (λ p n v. placed_point_or_act (as_str v) (length net.agents) p n v) (path ++ Key Points ∷ []) grown s.points))))
+    placed_array (read_point (length net.agents)) (λ p n v. placed_point_or_act (as_str v) (length net.agents) p n v)
+    (path ++ Key Points ∷ []) grown s.points))))
 
 placed_read_arc : (path : List Step) (net : Net) (d : Data) → IsPlaced (read_arc path net d)
 placed_read_arc path net d =

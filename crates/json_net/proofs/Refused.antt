@@ -22,8 +22,8 @@ same A path refused.PointsClosed with now = refl
 same A path refused.NegativeDuration with now = refl
 same A path refused.OutOfMemory with now = tt
 
-pub refused_so : {T : Type 0} (A : Type 0) (path : List Step) (r : Option NetError) (result : Result T NetError) (e : NetError) (with now : Net) → MatchOption r (IsOkUnless result refused.OutOfMemory) (IsErrOf result)
-    → result ≡ Err e → Adds {A = A} (unless path r with) (Err (error_of path e)) now
+pub refused_so : {T : Type 0} (A : Type 0) (path : List Step) (r : Option NetError) (result : Result T NetError) (e : NetError) (with now : Net)
+    → MatchOption r (IsOkUnless result refused.OutOfMemory) (IsErrOf result) → result ≡ Err e → Adds {A = A} (unless path r with) (Err (error_of path e)) now
 refused_so {T} A path None result e with now h is =
     let at : IsOkUnless {T = T} (Err e) refused.OutOfMemory = subst (λ t. IsOkUnless t refused.OutOfMemory) is h in
     subst (λ x. Adds {A = A} (unless path None with) (Err (error_of path x)) now) (sym at) tt

@@ -16,14 +16,16 @@ pub and_then-Ok : {A B : Type 0} (r : Result A JsonError) (x : A) (next : A → 
 and_then-Ok r x next is = ap (λ t. and_then t next) is
 
 -- the failure of a part is that of the whole
-pub failed_so : (A : Type 0) {B : Type 0} (whole : Result B JsonError) (part : Result Net JsonError) (next : Net → Result B JsonError) (e : JsonError) (now : Net) → whole ≡ and_then part next
+pub failed_so : (A : Type 0) {B : Type 0} (whole : Result B JsonError) (part : Result Net JsonError) (next : Net → Result B JsonError)
+    (e : JsonError) (now : Net) → whole ≡ and_then part next
     → Adds {A = A} part (Err e) now → IsRead {A = B} (Err e) whole
 failed_so A whole part next JsonBad now split h = split ∙ ap (λ t. and_then t next) h
 failed_so A whole part next (At path cause) now split h = split ∙ ap (λ t. and_then t next) h
 failed_so A whole part next OutOfMemory now split h = tt
 
 -- the failure of the last part is that of the whole
-pub failed_last : (A : Type 0) (whole part : Result Net JsonError) (e : JsonError) (now : Net) → whole ≡ part → Adds {A = A} part (Err e) now → IsRead {A = Net} (Err e) whole
+pub failed_last : (A : Type 0) (whole part : Result Net JsonError) (e : JsonError) (now : Net) → whole ≡ part
+    → Adds {A = A} part (Err e) now → IsRead {A = Net} (Err e) whole
 failed_last A whole part JsonBad now is h = is ∙ h
 failed_last A whole part (At path cause) now is h = is ∙ h
 failed_last A whole part OutOfMemory now is h = tt
@@ -33,7 +35,8 @@ pub at_root : (root path : List Step) (s : Step) → root ≡ [] → path ≡ ro
 at_root root path s none is = is ∙ ap (λ (r : List Step). r ++ s ∷ []) none
 
 -- what is left to read once the horizon is
-pub opened_so : (d : Data) (s : RootShape) (net : Net) (root first second : List Step) → root ≡ [] → first ≡ root ++ Key Mastn ∷ [] → second ≡ root ++ Key Horizon ∷ []
+pub opened_so : (d : Data) (s : RootShape) (net : Net) (root first second : List Step) → root ≡ []
+    → first ≡ root ++ Key Mastn ∷ [] → second ≡ root ++ Key Horizon ∷ []
     → Ok s ≡ root_shape root d → Ok (tt {0}) ≡ version first s.mastn → Ok net ≡ opened second s.horizon
     → network_of d ≡ and_then (read_array read_agent (Key Agents ∷ []) net s.agents) (λ grown. read_array read_arc (Key Arcs ∷ []) grown s.arcs)
 opened_so d s net root first second none one two shaped versioned begun =

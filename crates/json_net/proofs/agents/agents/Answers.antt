@@ -9,7 +9,8 @@ loop-i-preserved c =
     record {
       said =
           c.loop-i.invariant.said
-          ∙ item_read read_agent c.args.path c.loop-i.net c.deref-item-items.result.now c.loop-i.i c.item-item.result c.item_step-step.result c.then.result
+          ∙ item_read read_agent c.args.path c.loop-i.net c.deref-item-items.result.now c.loop-i.i
+          c.item-item.result c.item_step-step.result c.then.result
           c.agent.new.net c.loop-i-test.true c.item-item.is c.item_step-step.ensures c.then.ensures c.in_ok-agent.ensures.said;
       few = omega (arith, c.loop-i.invariant.few, c.in_ok-agent.ensures.grows);
     }

@@ -6,7 +6,8 @@ use Rattle.json_net.proofs.agents.points.Given as goal
 
 abbrev pub invariant-loop-i : goal.invariant-loop-i
 invariant-loop-i l = record {
-  said : read_each (read_point l.agent.0) l.path l.fn.net 0 (items_view l.item-items) ≡ read_each (read_point l.agent.0) l.path l.net l.i (items_view (drop l.i l.item-items));
+  said : read_each (read_point l.agent.0) l.path l.fn.net 0 (items_view l.item-items)
+      ≡ read_each (read_point l.agent.0) l.path l.net l.i (items_view (drop l.i l.item-items));
   few : l.i ≤ length l.net.places;
   agents : l.net.agents ≡ l.fn.net.agents;
 }

@@ -16,11 +16,15 @@ returns-in_err-agents c =
     let s = root_seen c.in_ok-shape.shape in
     let net = c.in_ok-net.net in
     let e = c.in_err-agents.field-0.0 in
-    let left = opened_so d s net c.root-root.result c.then.result c.then-2.result c.root-root.ensures c.then.ensures c.then-2.ensures c.in_ok-shape.ensures c.in_ok-version.ensures c.in_ok-net.ensures in
+    let left =
+    opened_so d s net c.root-root.result c.then.result c.then-2.result c.root-root.ensures c.then.ensures c.then-2.ensures
+    c.in_ok-shape.ensures c.in_ok-version.ensures c.in_ok-net.ensures in
     let here = at_root c.root-root.result c.then-3.result (Key Agents) c.root-root.ensures c.then-3.ensures in
     let said = subst (λ (p : List Step). Adds {A = Unit {0}} (read_array read_agent p net s.agents) (Err e) c.agents.new.net) here c.in_err-agents.ensures in
     let p = err_from_is_err_and c.from_residual-in_err-agents.result c.from_residual-in_err-agents.ensures.1 in
-    rw (p.1, p.2) (failed_so (Unit {0}) (network_of d) (read_array read_agent (Key Agents ∷ []) net s.agents) (λ grown. read_array read_arc (Key Arcs ∷ []) grown s.arcs) e c.agents.new.net left said)
+    rw (p.1, p.2) (failed_so (Unit {0}) (network_of d) (read_array read_agent (Key Agents ∷ []) net s.agents)
+    (λ grown. read_array read_arc (Key Arcs ∷ []) grown s.arcs)
+    e c.agents.new.net left said)
 
 pub returns-in_err-arcs : goal.returns-in_err-arcs
 returns-in_err-arcs c =
@@ -29,7 +33,9 @@ returns-in_err-arcs c =
     let net = c.in_ok-net.net in
     let e = c.in_err-arcs.field-0.0 in
     let grown = c.agents.new.net in
-    let left = opened_so d s net c.root-root.result c.then.result c.then-2.result c.root-root.ensures c.then.ensures c.then-2.ensures c.in_ok-shape.ensures c.in_ok-version.ensures c.in_ok-net.ensures in
+    let left =
+    opened_so d s net c.root-root.result c.then.result c.then-2.result c.root-root.ensures c.then.ensures c.then-2.ensures
+    c.in_ok-shape.ensures c.in_ok-version.ensures c.in_ok-net.ensures in
     let there = at_root c.root-root.result c.then-3.result (Key Agents) c.root-root.ensures c.then-3.ensures in
     let peopled = subst (λ (p : List Step). read_array read_agent p net s.agents ≡ Ok grown) there c.in_ok-agents.ensures in
     let here = at_root c.root-root.result c.then-4.result (Key Arcs) c.root-root.ensures c.then-4.ensures in
