@@ -1,7 +1,9 @@
 -- The laws of valid inputs.
-use Rattle.std.proofs.Common.{◌≡◌, ℕ, ◌+◌, ◌≤◌, ◌⊎◌, inl, inr, ⊎_elim, Bool, true, false, List, length, drop, Option, None, Some, Result, Ok, Err, refl, subst, arith, nat_lt, MatchBool}
+use Rattle.std.proofs.Common.{◌≡◌, ℕ, ◌+◌, ◌≤◌, ◌⊎◌, inl, inr, ⊎_elim, Bool, true, false, List, length, drop, Option, None, Some, Result, Ok, Err, refl, sym, ap, subst, ◌∙◌, arith, nat_lt, MatchBool}
 use Rattle.std.proofs.lemmas.Bool.Decides.{nat_tests}
+use Rattle.json_net.specs.Texts.{value_of, said}
 use Rattle.stn_io.specs.Bytes.{Loses}
+use Rattle.stn_io.specs.Causes.{Rose}
 use Rattle.stn_io.specs.States.{SourceState, SinkState}
 use Rattle.stn_io.specs.declared.whole.ReadRefusal.{ReadRefusal}
 use Rattle.stn_io.specs.declared.whole.ReadRefusal.TheVariants as refusal
@@ -14,15 +16,18 @@ use Rattle.mastn.specs.declared.answer.Outcome.{Outcome}
 use Rattle.mastn.specs.declared.answer.Outcome.TheVariants.{Done, Inconsistent, NetBad, NotProved, TooLarge}
 use Rattle.mastn.specs.declared.question.Question.{Question}
 use Rattle.mastn.specs.declared.question.Question.TheVariants.{Check, Certify, Verify, Upgrade, Repair}
+use Rattle.mastn.specs.declared.json.JsonQuestion.{JsonQuestion}
+use Rattle.mastn.specs.declared.json.JsonQuestion.TheVariants as json
 use Rattle.mastn.specs.declared.status.Status.{Status}
 use Rattle.mastn.specs.declared.status.Status.TheVariants as status
 use Rattle.mastn.specs.Certificates.{is_too_large, SaysTooLarge, SaysCertificate, SaysVerdict, SaysChecked}
 use Rattle.mastn.specs.Checks.{Checks}
 use Rattle.mastn.specs.Gens.{Generates}
-use Rattle.mastn.specs.Laws.{IsShown, Suits, IsValidRun, IsReported, ValidInputsAreReported, GeneratedIsReported}
+use Rattle.mastn.specs.Json.{Prints, OfJson, SaysValue, says_of_json}
+use Rattle.mastn.specs.Laws.{IsShown, Suits, IsReported, ValidInputsAreReported, JsonNetworksAreReported, GeneratedIsReported}
 use Rattle.mastn.specs.Repairs.{Repairs}
 use Rattle.mastn.specs.Questions.{OfNetwork, SaysRead, says_of}
-use Rattle.mastn.specs.Runs.{Means, MeansAlone}
+use Rattle.mastn.specs.Runs.{Means, MeansAlone, Runs}
 use Rattle.mastn.specs.Statuses.{status_of, meant_status}
 use Rattle.mastn.specs.Upgrades.{Upgrades}
 
@@ -87,26 +92,47 @@ not_long : (bytes : List ℕ) (after : Option (List ℕ)) → length bytes ≤ 1
 not_long bytes None few gone = gone
 not_long bytes (Some ys) few gone = absurd (omega (arith, gone.0))
 
-module _ (q : Question) (source left : SourceState) (sink taken : SinkState) (v : IsValidRun q source left sink taken) where
-  said : (bytes : List ℕ) (o : Outcome) (text : List ℕ) → bytes ≡ v.bytes → says_of q bytes o text → OfNetwork q v.bytes v.read o text
-  said bytes o text e h =
-      subst (λ r. SaysRead (OfNetwork q v.bytes) r o text) v.begins (subst (λ bs. says_of q bs o text) e h)
-
-  meant_reports : (m : Result Outcome ReadRefusal) (text : List ℕ) → Means (says_of q) source left m text → IsReported (meant_status m)
-  meant_reports (Ok o) text m =
-      let same : m.0 ≡ v.bytes = rw v.told at m.1.told in
-      reported q v.bytes v.read o text v.suits (said m.0 o text same m.2)
-  meant_reports (Err refusal.ReadFault) text m = absurd (v.reads m.0.1)
-  meant_reports (Err refusal.TooLong) text m = absurd (not_long v.bytes left.left v.few (rw v.told at m.0.0))
-  meant_reports (Err refusal.OutOfMemory) text m = inr (inr refl)
-
 same_status : (answer meant : Status) → answer ≡ meant → IsReported meant → IsReported answer
 same_status answer meant e h = rw e h
 
+module _ (says : List ℕ → Outcome → List ℕ → Type 0) (source left : SourceState) (bytes : List ℕ) (told : source.left ≡ Some bytes)
+    (few : length bytes ≤ 16777216) (quiet : Rose source.faults left.faults → ⊥)
+    (reports : (o : Outcome) (text : List ℕ) → says bytes o text → IsReported (status_of o)) where
+  meant_reports : (m : Result Outcome ReadRefusal) (text : List ℕ) → Means says source left m text → IsReported (meant_status m)
+  meant_reports (Ok o) text m =
+      let same : m.0 ≡ bytes = rw told at m.1.told in
+      reports o text (subst (λ bs. says bs o text) same m.2)
+  meant_reports (Err refusal.ReadFault) text m = absurd (quiet m.0.1)
+  meant_reports (Err refusal.TooLong) text m = absurd (not_long bytes left.left few (rw told at m.0.0))
+  meant_reports (Err refusal.OutOfMemory) text m = inr (inr refl)
+
+  run_reports : (sink taken : SinkState) (answer : Status) → Runs says source left sink taken answer → (Rose sink.faults taken.faults → ⊥) → IsReported answer
+  run_reports sink taken answer runs written =
+      let report = meant_reports runs.meant runs.text runs.means in
+      ⊎_elim (λ whole. same_status answer (meant_status runs.meant) whole.0 report) (λ failed. absurd (written failed.1.rose)) runs.writes
+
 pub valid_inputs : ValidInputsAreReported
 valid_inputs q source left sink taken answer runs v =
-    let report = meant_reports q source left sink taken v runs.meant runs.text runs.means in
-    ⊎_elim (λ written. same_status answer (meant_status runs.meant) written.0 report) (λ failed. absurd (v.writes failed.1.rose)) runs.writes
+    run_reports (says_of q) source left v.bytes v.told v.few v.reads
+    (λ o text h. reported q v.bytes v.read o text v.suits (subst (λ r. SaysRead (OfNetwork q v.bytes) r o text) v.begins h))
+    sink taken answer runs v.writes
+
+printed : (net : Net) (o : Outcome) (text : List ℕ) → Prints net o text → IsReported (status_of o)
+printed net Done text h = inl refl
+printed net Inconsistent text h = absurd h
+printed net NetBad text h = absurd h
+printed net NotProved text h = absurd h
+printed net TooLarge text h = absurd h
+
+json_reported : (q : JsonQuestion) (net : Net) (o : Outcome) (text : List ℕ) → OfJson q net o text → IsReported (status_of o)
+json_reported json.Check net o text h = checked net o text h
+json_reported json.Print net o text h = printed net o text h
+
+pub json_networks : JsonNetworksAreReported
+json_networks q source left sink taken answer runs v =
+    let is : said (value_of v.bytes) ≡ Ok v.net = ap said v.says.1 ∙ v.says.2 in
+    run_reports (says_of_json q) source left v.bytes v.told v.few v.reads
+    (λ o text h. json_reported q v.net o text (subst (λ r. SaysValue (OfJson q) r o text) is h)) sink taken answer runs v.writes
 
 generates : (number size : ℕ) (o : Outcome) (text : List ℕ) → Generates number size o text → status_of o ≡ status.Done
 generates number size Done text h = refl

@@ -3,7 +3,7 @@ use Rattle.std.specs.Prelude.{ℕ, ◌≤◌, ℤ, Bool, pos, List, [], ◌∷�
 use Rattle.std.specs.Str.{bytes_eq}
 use Rattle.net_text.specs.Numbers.{number_of}
 use Rattle.mastn.specs.declared.words.Job.{Job}
-use Rattle.mastn.specs.declared.words.Job.TheVariants.{Check, Certify, Verify, Upgrade, Repair, Gen}
+use Rattle.mastn.specs.declared.words.Job.TheVariants.{Check, Certify, Verify, Upgrade, Repair, CheckJson, Json, Gen}
 use Rattle.mastn.specs.Limits.{greatest_number, greatest_size}
 
 -- the number of a word of 1 to 10 digits
@@ -29,6 +29,8 @@ IsWithinLimits Certify = Unit {0}
 IsWithinLimits Verify = Unit {0}
 IsWithinLimits Upgrade = Unit {0}
 IsWithinLimits Repair = Unit {0}
+IsWithinLimits CheckJson = Unit {0}
+IsWithinLimits Json = Unit {0}
 IsWithinLimits (Gen number size) = (number ≤ greatest_number) × (1 ≤ size) × (size ≤ greatest_size)
 
 -- a lone word
@@ -39,16 +41,21 @@ lone_job word =
     else (if bytes_eq word (codes "verify") then Some Verify
     else (if bytes_eq word (codes "upgrade") then Some Upgrade
     else (if bytes_eq word (codes "repair") then Some Repair
-    else None))))
+    else (if bytes_eq word (codes "json") then Some Json
+    else None)))))
+
+-- a word with the form of its input
+abbrev pub formed_job : List ℕ → List ℕ → Option Job
+formed_job word form = if bytes_eq word (codes "check") && bytes_eq form (codes "--json") then Some CheckJson else None
 
 -- a word with a number and a size
 abbrev pub sized_job : List ℕ → List ℕ → List ℕ → Option Job
 sized_job word number size = if bytes_eq word (codes "gen") then gen_of (digits_of number) (digits_of size) else None
 
--- the table of words: none, or `check`; `certify`; `verify`; `upgrade`; `repair`; `gen NUMBER SIZE`
+-- the table of words: none, or `check`; `certify`; `verify`; `upgrade`; `repair`; `check --json`; `json`; `gen NUMBER SIZE`
 abbrev pub job_of : List (List ℕ) → Option Job
 job_of [] = Some Check
 job_of (word ∷ []) = lone_job word
-job_of (word ∷ number ∷ []) = None
+job_of (word ∷ form ∷ []) = formed_job word form
 job_of (word ∷ number ∷ size ∷ []) = sized_job word number size
 job_of (word ∷ number ∷ size ∷ next ∷ more) = None

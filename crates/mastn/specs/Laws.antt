@@ -1,8 +1,8 @@
--- Laws of runs: ValidInputsAreReported, GeneratedIsReported, CertifiedIsVerified.
+-- Laws of runs: ValidInputsAreReported, JsonNetworksAreReported, GeneratedIsReported, CertifiedIsVerified.
 use Rattle.std.specs.Prelude.{◌≡◌, ℕ, ◌+◌, ◌≤◌, ◌⊎◌, ◌++◌, List, length, take, drop, Some, Ok}
 use Rattle.stn_io.specs.Causes.{Rose}
 use Rattle.stn_io.specs.States.{SourceState, SinkState}
-use Rattle.stn_model.specs.Net.{point_count}
+use Rattle.stn_model.specs.Net.{Net, point_count}
 use Rattle.net_text.specs.declared.read.NetRead.{NetRead}
 use Rattle.net_text.specs.Lines.{EndsInFeed}
 use Rattle.net_text.specs.Networks.{text_of}
@@ -10,11 +10,14 @@ use Rattle.cert_check.specs.declared.verdict.Verdict.{Verdict}
 use Rattle.cert_check.specs.declared.verdict.Verdict.TheVariants as verdict
 use Rattle.cert_check.specs.Certificates.{verdict_of}
 use Rattle.mastn.specs.declared.answer.Outcome.{Outcome}
+use Rattle.json_net.specs.Texts.{SaysNetwork}
+use Rattle.mastn.specs.declared.json.JsonQuestion.{JsonQuestion}
 use Rattle.mastn.specs.declared.question.Question.{Question}
 use Rattle.mastn.specs.declared.question.Question.TheVariants.{Check, Certify, Verify, Upgrade, Repair}
 use Rattle.mastn.specs.declared.status.Status.{Status}
 use Rattle.mastn.specs.declared.status.Status.TheVariants.{Done, Inconsistent, OutOfMemory}
 use Rattle.mastn.specs.Gens.{Generates}
+use Rattle.mastn.specs.Json.{says_of_json}
 use Rattle.mastn.specs.Limits.{longest_input, most_certified}
 use Rattle.mastn.specs.Questions.{says_of}
 use Rattle.mastn.specs.Runs.{Runs, RunsAlone}
@@ -44,15 +47,31 @@ pub record IsValidRun (question : Question) (source left : SourceState) (sink ta
   pub reads : Rose source.faults left.faults → ⊥
   pub writes : Rose sink.faults taken.faults → ⊥
 
+-- a run on a network in JSON: the source told it, it is within the limit, and neither count of faults rose
+pub record IsJsonRun (source left : SourceState) (sink taken : SinkState) : Type 0 where
+  pub bytes : List ℕ
+  pub told : source.left ≡ Some bytes
+  pub few : length bytes ≤ longest_input
+  pub net : Net
+  pub says : SaysNetwork bytes net
+  pub reads : Rose source.faults left.faults → ⊥
+  pub writes : Rose sink.faults taken.faults → ⊥
+
 -- the report was written whole, or memory ran out
 abbrev pub IsReported : Status → Type 0
 IsReported answer = (answer ≡ Done) ⊎ ((answer ≡ Inconsistent) ⊎ (answer ≡ OutOfMemory))
 
--- each job that reads reports each valid input
+-- each job that reads a network text reports each valid input
 abbrev pub ValidInputsAreReported : Type 0
 ValidInputsAreReported =
     (question : Question) (source left : SourceState) (sink taken : SinkState) (answer : Status)
     → Runs (says_of question) source left sink taken answer → IsValidRun question source left sink taken → IsReported answer
+
+-- each job that reads a network in JSON reports each
+abbrev pub JsonNetworksAreReported : Type 0
+JsonNetworksAreReported =
+    (question : JsonQuestion) (source left : SourceState) (sink taken : SinkState) (answer : Status)
+    → Runs (says_of_json question) source left sink taken answer → IsJsonRun source left sink taken → IsReported answer
 
 -- `gen` writes each network where no write fails
 abbrev pub GeneratedIsReported : Type 0

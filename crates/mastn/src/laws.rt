@@ -1,13 +1,19 @@
 //! Laws of runs, which no code keeps.
-ghost use Rattle.mastn.specs.Laws.{ValidInputsAreReported, GeneratedIsReported, CertifiedIsVerified};
+ghost use Rattle.mastn.specs.Laws.{ValidInputsAreReported, JsonNetworksAreReported, GeneratedIsReported, CertifiedIsVerified};
 
-/// Each job that reads reports each valid input, where no read and no write fails, unless memory runs out.
+/// Each job that reads a network text reports each valid input, where no read and no write fails, unless memory runs out.
 ///
 /// An input is valid where it is within the limit and begins with a network text: for `certify` one of at most 256 points, and for
 /// `verify` such a text and a certificate without a false line.
 #[tactic(auto, using(crate::proofs::Valid::valid_inputs))]
 pub fn valid_inputs_are_reported()
     ensures { ValidInputsAreReported }
+{}
+
+/// `check --json` and `json` report each network in JSON, where no read and no write fails, unless memory runs out.
+#[tactic(auto, using(crate::proofs::Valid::json_networks))]
+pub fn json_networks_are_reported()
+    ensures { JsonNetworksAreReported }
 {}
 
 /// `gen` writes its network, where no write fails, unless memory runs out.

@@ -5,10 +5,12 @@ mod answer;
 mod certify;
 mod check;
 mod generate;
+mod json;
 mod laws;
 mod limits;
 mod question;
 mod repair;
+mod request;
 mod run;
 mod status;
 #[cfg(test)]

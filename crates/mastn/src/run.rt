@@ -3,18 +3,23 @@ ghost use Rattle.std.specs.Prelude.{◌≡◌, ℕ, ◌≤◌, List, codes, map,
 ghost use Rattle.mastn.specs.Gens.{Generates};
 ghost use Rattle.mastn.specs.Jobs.{job_of};
 ghost use Rattle.mastn.specs.Limits.{greatest_number, greatest_size};
+ghost use Rattle.mastn.specs.Json.{says_of_json};
 ghost use Rattle.mastn.specs.Questions.{says_of};
+ghost use Rattle.mastn.specs.Requests.{asks_of};
 ghost use Rattle.mastn.specs.Reports.{refusal_line};
 ghost use Rattle.mastn.specs.Runs.{ReadsWhole, Refuses, Writes, Runs, RunsAlone, refusal_word};
 ghost use Rattle.mastn.specs.Statuses.{refusal_status};
+ghost use Rattle.mastn.specs.declared.json.JsonQuestion.TheVariants as json;
 ghost use Rattle.mastn.specs.declared.question.Question.TheVariants as question;
 ghost use Rattle.mastn.specs.declared.status.Status.TheVariants as status;
 ghost use Rattle.mastn.specs.declared.words.Job.TheVariants as job;
 
 use crate::answer::Answer;
 use crate::generate::generated_text;
+use crate::json::JsonQuestion;
 use crate::limits::LONGEST_INPUT;
 use crate::question::Question;
+use crate::request::Request;
 use crate::status::Status;
 use crate::words::{Job, read_words};
 use std::alloc::Global;
@@ -43,6 +48,10 @@ pub fn run<S: Source, K: Sink>(
         → Runs (says_of question.Upgrade) (S.state source.old) (S.state source.new) (K.state sink.old) (K.state sink.new) result }
     ensures repair { job_of (map (λ w. w.items) words.now) ≡ Some job.Repair
         → Runs (says_of question.Repair) (S.state source.old) (S.state source.new) (K.state sink.old) (K.state sink.new) result }
+    ensures check_json { job_of (map (λ w. w.items) words.now) ≡ Some job.CheckJson
+        → Runs (says_of_json json.Check) (S.state source.old) (S.state source.new) (K.state sink.old) (K.state sink.new) result }
+    ensures json { job_of (map (λ w. w.items) words.now) ≡ Some job.Json
+        → Runs (says_of_json json.Print) (S.state source.old) (S.state source.new) (K.state sink.old) (K.state sink.new) result }
     // Nothing is read.
     ensures generated { (number size : ℕ) → job_of (map (λ w. w.items) words.now) ≡ Some (job.Gen number size) → (source.new ≡ source.old)
         × RunsAlone (Generates number size) (K.state sink.old) (K.state sink.new) result }
@@ -56,6 +65,8 @@ pub fn run<S: Source, K: Sink>(
         Some(Job::Verify) => run_verify(alloc, source, sink),
         Some(Job::Upgrade) => run_upgrade(alloc, source, sink),
         Some(Job::Repair) => run_repair(alloc, source, sink),
+        Some(Job::CheckJson) => run_check_json(alloc, source, sink),
+        Some(Job::Json) => run_json(alloc, source, sink),
         Some(Job::Gen { number, size }) => run_gen(alloc, number, size, sink),
     }
 }
@@ -66,7 +77,7 @@ pub fn run_check<S: Source, K: Sink>(alloc: Global, source: &mut S, sink: &mut K
     ensures reads_later { (S.state source.old).faults ≤ (S.state source.new).faults }
     ensures writes_later { (K.state sink.old).faults ≤ (K.state sink.new).faults }
 {
-    run_question(alloc, Question::Check, source, sink)
+    run_request(alloc, Request::Text(Question::Check), source, sink)
 }
 
 /// Reads a network of at most 256 points and writes a certificate of its verdict and of its least bounds. What follows the `end` line of the network is not looked at.
@@ -75,7 +86,7 @@ pub fn run_certify<S: Source, K: Sink>(alloc: Global, source: &mut S, sink: &mut
     ensures reads_later { (S.state source.old).faults ≤ (S.state source.new).faults }
     ensures writes_later { (K.state sink.old).faults ≤ (K.state sink.new).faults }
 {
-    run_question(alloc, Question::Certify, source, sink)
+    run_request(alloc, Request::Text(Question::Certify), source, sink)
 }
 
 /// Reads a network of at most 256 points and its certificate, and checks this.
@@ -84,7 +95,7 @@ pub fn run_verify<S: Source, K: Sink>(alloc: Global, source: &mut S, sink: &mut 
     ensures reads_later { (S.state source.old).faults ≤ (S.state source.new).faults }
     ensures writes_later { (K.state sink.old).faults ≤ (K.state sink.new).faults }
 {
-    run_question(alloc, Question::Verify, source, sink)
+    run_request(alloc, Request::Text(Question::Verify), source, sink)
 }
 
 /// Reads a network and writes it in version 2 of the text, whether or not some schedule satisfies it. What follows the `end` line of the network is not looked at.
@@ -93,7 +104,7 @@ pub fn run_upgrade<S: Source, K: Sink>(alloc: Global, source: &mut S, sink: &mut
     ensures reads_later { (S.state source.old).faults ≤ (S.state source.new).faults }
     ensures writes_later { (K.state sink.old).faults ≤ (K.state sink.new).faults }
 {
-    run_question(alloc, Question::Upgrade, source, sink)
+    run_request(alloc, Request::Text(Question::Upgrade), source, sink)
 }
 
 /// Reads a network and reports its earliest schedule; or a negative cycle, and for each given arc of it, in its order, by how much it must at
@@ -103,34 +114,52 @@ pub fn run_repair<S: Source, K: Sink>(alloc: Global, source: &mut S, sink: &mut 
     ensures reads_later { (S.state source.old).faults ≤ (S.state source.new).faults }
     ensures writes_later { (K.state sink.old).faults ≤ (K.state sink.new).faults }
 {
-    run_question(alloc, Question::Repair, source, sink)
+    run_request(alloc, Request::Text(Question::Repair), source, sink)
 }
 
-/// Reads an input to its end, and writes the answer to a question.
-fn run_question<S: Source, K: Sink>(
-    alloc: Global,
-    question: Question,
-    source: &mut S,
-    sink: &mut K,
-) -> Status
-    ensures answer { Runs (says_of question) (S.state source.old) (S.state source.new) (K.state sink.old) (K.state sink.new) result }
+/// Reads a network in JSON and writes the report of `check` on it.
+pub fn run_check_json<S: Source, K: Sink>(alloc: Global, source: &mut S, sink: &mut K) -> Status
+    ensures check { Runs (says_of_json json.Check) (S.state source.old) (S.state source.new) (K.state sink.old) (K.state sink.new) result }
     ensures reads_later { (S.state source.old).faults ≤ (S.state source.new).faults }
     ensures writes_later { (K.state sink.old).faults ≤ (K.state sink.new).faults }
 {
-    match ask(alloc, question, source) {
+    run_request(alloc, Request::Json(JsonQuestion::Check), source, sink)
+}
+
+/// Reads a network in JSON and writes its plain form, whether or not some schedule satisfies it.
+pub fn run_json<S: Source, K: Sink>(alloc: Global, source: &mut S, sink: &mut K) -> Status
+    ensures json { Runs (says_of_json json.Print) (S.state source.old) (S.state source.new) (K.state sink.old) (K.state sink.new) result }
+    ensures reads_later { (S.state source.old).faults ≤ (S.state source.new).faults }
+    ensures writes_later { (K.state sink.old).faults ≤ (K.state sink.new).faults }
+{
+    run_request(alloc, Request::Json(JsonQuestion::Print), source, sink)
+}
+
+/// Reads an input to its end, and writes the answer to a request.
+fn run_request<S: Source, K: Sink>(
+    alloc: Global,
+    request: Request,
+    source: &mut S,
+    sink: &mut K,
+) -> Status
+    ensures answer { Runs (asks_of request) (S.state source.old) (S.state source.new) (K.state sink.old) (K.state sink.new) result }
+    ensures reads_later { (S.state source.old).faults ≤ (S.state source.new).faults }
+    ensures writes_later { (K.state sink.old).faults ≤ (K.state sink.new).faults }
+{
+    match ask(alloc, request, source) {
         Ok(answer) => deliver(sink, answer.text.as_slice(), answer.outcome.status()),
         Err(refusal) => refuse(sink, refusal),
     }
 }
 
-/// Reads an input to its end, and answers a question about it.
-fn ask<S: Source>(alloc: Global, question: Question, source: &mut S) -> Result<Answer, ReadRefusal>
-    ensures answer { IfOk result (λ a. (bytes : List ℕ) × ReadsWhole (S.state source.old) (S.state source.new) bytes × says_of question bytes a.outcome a.text.items) }
+/// Reads an input to its end, and answers a request.
+fn ask<S: Source>(alloc: Global, request: Request, source: &mut S) -> Result<Answer, ReadRefusal>
+    ensures answer { IfOk result (λ a. (bytes : List ℕ) × ReadsWhole (S.state source.old) (S.state source.new) bytes × asks_of request bytes a.outcome a.text.items) }
     ensures refused { IfErr result (λ e. Refuses e (S.state source.old) (S.state source.new)) }
     ensures later { (S.state source.old).faults ≤ (S.state source.new).faults }
 {
     let bytes = read_all(alloc, source, LONGEST_INPUT)?;
-    let Ok(answer) = question.answer(alloc, bytes.as_slice()) else {
+    let Ok(answer) = request.answer(alloc, bytes.as_slice()) else {
         return Err(ReadRefusal::OutOfMemory);
     };
     Ok(answer)

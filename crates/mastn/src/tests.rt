@@ -19,6 +19,15 @@ const REFUTED: &[u8] =
 const TASK: &[u8] =
     b"mastn 2\nhorizon 100\nagent ann\nact ann dig 30 40\npoint ann x\narc dig.e x 5\nend\n";
 
+const JSON: &[u8] =
+    br#"{"mastn":2,"horizon":10,"agents":[{"name":"alice","points":["a"]}],"arcs":[]}"#;
+
+const JSON_CONFLICT: &[u8] =
+    br#"{"mastn":2,"horizon":10,"agents":[{"name":"x","points":["a","b"]}],"arcs":[{"from":"a","to":"b","low":5,"high":3}]}"#;
+
+const JSON_TAKEN: &[u8] =
+    br#"{"mastn":2,"horizon":10,"agents":[{"name":"alice","points":["a","a"]}],"arcs":[]}"#;
+
 const STORED: &[u8] = b"mastn 1\nhorizon 10\nagent alice early\npoint alice a\nend\n";
 
 /// Runs the job of these words on this input, with a source and a sink that give and take pieces and fail at the listed calls.
@@ -147,6 +156,45 @@ fn inputs_have_their_answers(rt: HostRuntime) -> Result<(), Fail> {
     ];
     for (word, input, status, text) in cases {
         let found = answer(rt.alloc(), &[word], input, (4096, &[]), (4096, &[]))?;
+        assert_eq!(rt; found.0, status);
+        assert_eq!(rt; found.1.as_slice(), text);
+    }
+    Ok(())
+}
+
+#[test]
+fn inputs_in_json_have_their_answers(rt: HostRuntime) -> Result<(), Fail> {
+    let (check, json, form): (&[u8], &[u8], &[u8]) = (b"check", b"json", b"--json");
+    let cases: [(&[&[u8]], &[u8], Status, &[u8]); 6] = [
+        (
+            &[check, form],
+            JSON,
+            Status::Done,
+            b"consistent\ntime a 0\n",
+        ),
+        (&[json], JSON, Status::Done, STORED),
+        (
+            &[check, form],
+            JSON_CONFLICT,
+            Status::Inconsistent,
+            b"inconsistent\ncycle -2 2\narc 4 a b 3\narc 5 b a -5\n",
+        ),
+        (
+            &[json],
+            JSON_CONFLICT,
+            Status::Done,
+            b"mastn 1\nhorizon 10\nagent x early\npoint x a\npoint x b\narc a b 3\narc b a -5\nend\n",
+        ),
+        (
+            &[check, form],
+            JSON_TAKEN,
+            Status::NetBad,
+            b"error 0 NameTaken $/agents/0/points/1\n",
+        ),
+        (&[json], STORED, Status::NetBad, b"error 0 JsonBad\n"),
+    ];
+    for (words, input, status, text) in cases {
+        let found = answer(rt.alloc(), words, input, (4096, &[]), (4096, &[]))?;
         assert_eq!(rt; found.0, status);
         assert_eq!(rt; found.1.as_slice(), text);
     }

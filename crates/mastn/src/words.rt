@@ -1,6 +1,6 @@
 //! The words of the command line.
 ghost use Rattle.std.specs.Prelude.{◌≡◌, ◌≤◌, IfSome, map};
-ghost use Rattle.mastn.specs.Jobs.{job_of, lone_job, sized_job, digits_of, gen_of, gen_within, IsWithinLimits};
+ghost use Rattle.mastn.specs.Jobs.{job_of, lone_job, formed_job, sized_job, digits_of, gen_of, gen_within, IsWithinLimits};
 
 use crate::limits::{GREATEST_NUMBER, GREATEST_SIZE};
 use net_text::numbers::number_of;
@@ -18,6 +18,10 @@ pub enum Job {
     Upgrade,
     /// `repair`: read a network and loosen the arcs of one of its conflicts.
     Repair,
+    /// `check --json`: read a network in JSON and decide it.
+    CheckJson,
+    /// `json`: read a network in JSON and write its plain form.
+    Json,
     /// `gen NUMBER SIZE`: write the generated network of that number and size.
     Gen { number: u32, size: u32 },
 }
@@ -30,6 +34,7 @@ pub fn read_words(words: &[Vec<u8>]) -> Option<Job>
     match words {
         [] => Some(Job::Check),
         [word] => read_lone(word.as_slice()),
+        [word, form] => read_formed(word.as_slice(), form.as_slice()),
         [word, number, size] => { read_sized(word.as_slice(), number.as_slice(), size.as_slice()) }
         _ => None,
     }
@@ -54,6 +59,20 @@ fn read_lone(word: &[u8]) -> Option<Job>
     }
     if word == b"repair".as_slice() {
         return Some(Job::Repair);
+    }
+    if word == b"json".as_slice() {
+        return Some(Job::Json);
+    }
+    None
+}
+
+/// The job of a word with the form of its input.
+fn read_formed(word: &[u8], form: &[u8]) -> Option<Job>
+    ensures job { result ≡ formed_job word.now form.now }
+    ensures within { IfSome result IsWithinLimits }
+{
+    if word == b"check".as_slice() && form == b"--json".as_slice() {
+        return Some(Job::CheckJson);
     }
     None
 }

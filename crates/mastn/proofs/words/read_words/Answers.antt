@@ -1,11 +1,7 @@
 use Rattle.std.proofs.Common.{map}
 use Rattle.std.proofs.lemmas.List.{length-map}
-use Rattle.mastn.proofs.WordLemmas.{two_words, four_words}
+use Rattle.mastn.proofs.WordLemmas.{four_words}
 use Rattle.mastn.proofs.words.read_words.Goals as goal
 
 pub returns-in_default-clause-job : goal.returns-in_default-clause-job
-returns-in_default-clause-job c =
-    two_words (map (λ w. w.items) c.args.words.now) (simp length-map c.in_default.len_at_least) (simp length-map c.in_default.len_below)
-
-pub returns-in_default-2-clause-job : goal.returns-in_default-2-clause-job
-returns-in_default-2-clause-job c = four_words (map (λ w. w.items) c.args.words.now) (simp length-map c.in_default.len_at_least)
+returns-in_default-clause-job c = four_words (map (λ w. w.items) c.args.words.now) (simp length-map c.in_default.len_at_least)

@@ -1,7 +1,7 @@
 use Rattle.std.proofs.Common.{Ok, Err, refl}
 use Rattle.mastn.specs.Reports.{refusal_line}
 use Rattle.mastn.specs.Runs.{refusal_word}
-use Rattle.mastn.proofs.run.run_question.Goals as goal
+use Rattle.mastn.proofs.run.run_request.Goals as goal
 
 pub returns-in-Ok-clause-answer : goal.returns-in-Ok-clause-answer
 returns-in-Ok-clause-answer g c = record {
