@@ -15,7 +15,8 @@ pub fn local_of(alloc: Global, net: &Network, agent: u32) -> Result<Local, Fail>
     if agent >= net.agents() {
         return Err(Fail::new("no such agent"));
     }
-    Ok(Local::of(alloc, net, AgentId(agent))?)
+    let local = Local::of(alloc, net, AgentId(agent))?;
+    Ok(local)
 }
 
 // The reduced local problem of an outcome without a conflict.
