@@ -70,7 +70,8 @@ allowed net start end low high e =
 -- the fields after an act are seen as the network with it
 pub act_view : (n : Inside) (net : Net) (es : List (Vec ℕ Global × AgentId)) (start end : Vec ℕ Global) (agent : AgentId) (name : List ℕ) (acts : List Act) (p q : ℕ) (l h low high : ℤ)
     → view_of n ≡ net → es ≡ n.places.entries ++ (start, agent) ∷ (end, agent) ∷ [] → start.items ≡ act_start_name name → end.items ≡ act_end_name name
-    → acts ≡ n.acts.items ++ record { start = record { 0 = p }; end = record { 0 = q }; low = l; high = h } ∷ [] → p ≡ point_count net → q ≡ point_count net + 1 → l ≡ low → h ≡ high
+    → acts ≡ n.acts.items ++ record { start = record { 0 = p }; end = record { 0 = q }; low = l; high = h } ∷ []
+    → p ≡ point_count net → q ≡ point_count net + 1 → l ≡ low → h ≡ high
     → record (view_of n) { places = map (λ e. record { name = e.0.items; owner = e.1.0 }) es; acts = acts } ≡ with_act net agent.0 name low high
 act_view n net es start end agent name acts p q l h low high view put start_is end_is added p_is q_is l_is h_is =
     let place : List ℕ → Place = λ b. record { name = b; owner = agent.0 } in
@@ -85,7 +86,10 @@ act_view n net es start end agent name acts p q l h low high view put start_is e
     ∙ ap (λ y. n.acts.items ++ act (point_count net) (point_count net + 1) low y ∷ []) h_is in
     ap (λ ps. record (view_of n) { places = ps; acts = acts }) places
     ∙ ap (λ ks. record (view_of n) { places = old ++ place (act_start_name name) ∷ place (act_end_name name) ∷ []; acts = ks }) acts_are
-    ∙ ap (λ (w : Net). record w { places = w.places ++ place (act_start_name name) ∷ place (act_end_name name) ∷ []; acts = w.acts ++ act (point_count net) (point_count net + 1) low high ∷ [] }) view
+    ∙ ap (λ (w : Net). record w {
+      places = w.places ++ place (act_start_name name) ∷ place (act_end_name name) ∷ [];
+      acts = w.acts ++ act (point_count net) (point_count net + 1) low high ∷ [];
+    }) view
 
 -- what an act's points are named for
 pub act_named : (net : Net) (a : Act) → IsActWithin net.places a

@@ -24,7 +24,9 @@ position_of_name : (names : List (List ℕ)) (i : ℕ) → AllPairs (λ x y. x �
 position_of_name names i differ lt =
     let name = get_or names i [] in
     let here : nat_lt i (length names) ≡ true = grind (arith, nat_tests) in
-    let at = position_or_len_is (bytes_eq name) names i [] (omega arith) (λ k less. unlike name (get_or names k []) (λ e. differ k i [] less lt (sym e))) (λ _. (bytes_eq-Decides name name).1 refl) in
+    let at = position_or_len_is (bytes_eq name) names i [] (omega arith)
+    (λ k less. unlike name (get_or names k []) (λ e. differ k i [] less lt (sym e)))
+    (λ _. (bytes_eq-Decides name name).1 refl) in
     ap (λ n. cond (nat_lt n (length names)) (Some n) None) at ∙ ap (λ b. cond b (Some i) None) here
 
 -- and the name at that place
@@ -34,11 +36,16 @@ name_at_position names name i is = by (nat_lt (position_or_len (bytes_eq name) n
     some : (a b : ℕ) → Some a ≡ Some b → a ≡ b
     some a b e = cc
 
-    by : (b : Bool) → nat_lt (position_or_len (bytes_eq name) names) (length names) ≡ b → cond b (Some (position_or_len (bytes_eq name) names)) None ≡ Some i → (i < length names) × (get_or names i [] ≡ name)
+    by : (b : Bool) → nat_lt (position_or_len (bytes_eq name) names) (length names) ≡ b
+        → cond b (Some (position_or_len (bytes_eq name) names)) None ≡ Some i → (i < length names) × (get_or names i [] ≡ name)
     by true e s =
         let same : position_or_len (bytes_eq name) names ≡ i = some (position_or_len (bytes_eq name) names) i s in
-        let within : position_or_len (bytes_eq name) names < length names = grind (arith, nat_tests) in
-        (omega (arith, same), ap (λ k. get_or names k []) (sym same) ∙ sym ((bytes_eq-Decides name (get_or names (position_or_len (bytes_eq name) names) [])).0 (passes_at_first (bytes_eq name) names [] within)))
+        let within : position_or_len (bytes_eq name) names < length names = grind (arith, nat_tests) in (
+          omega (arith, same),
+          ap (λ k. get_or names k []) (sym same)
+              ∙ sym ((bytes_eq-Decides name (get_or names (position_or_len (bytes_eq name) names) [])).0
+              (passes_at_first (bytes_eq name) names [] within)),
+        )
     by false e s = absurd (cc)
 
 module _ (net : Net) (valid : IsNetwork net) where

@@ -111,7 +111,9 @@ marked_at true from to flags k lt ends =
     (λ (at : k ≡ to - 1).
     let here : nat_eq to (k + 1) ≡ true = grind (arith, nat_tests, e.to_low) in
     ap (λ i. get_or (set (set flags (from - 1) true) i true) k false) (sym at) ∙ get_or-set_same (set flags (from - 1) true) k true false (omega arith)
-    ∙ sym (ap (λ b. get_or flags k false || ((nat_eq from (k + 1) || b) || false)) here ∙ ap (λ b. get_or flags k false || (b || false)) (or_true (nat_eq from (k + 1))) ∙ or_true (get_or flags k false)))
+    ∙ sym (ap (λ b. get_or flags k false || ((nat_eq from (k + 1) || b) || false)) here
+    ∙ ap (λ b. get_or flags k false || (b || false)) (or_true (nat_eq from (k + 1)))
+    ∙ or_true (get_or flags k false)))
     (λ (off : k ≢ to - 1).
     let there : nat_eq to (k + 1) ≡ false = grind (arith, nat_tests, e.to_low) in
     get_or-set_other (set flags (from - 1) true) (to - 1) k true false off
@@ -171,7 +173,8 @@ AreFlags-point net place flags none h = record {
         nothing test [] e = refl
         nothing test (x ∷ xs) e = absurd (omega arith)
 
-    unmarked : (test : Constraint → Bool) (arcs : List Constraint) → length arcs ≡ 0 → (k : ℕ) → k < length (flags ++ false ∷ []) → get_or (flags ++ false ∷ []) k false ≡ list_any test arcs
+    unmarked : (test : Constraint → Bool) (arcs : List Constraint) → length arcs ≡ 0 → (k : ℕ)
+        → k < length (flags ++ false ∷ []) → get_or (flags ++ false ∷ []) k false ≡ list_any test arcs
     unmarked test [] e k lt =
         ⊎_elim
         (λ (less : k < length flags). get_or_append_left flags (false ∷ []) false k less ∙ all_false k less)
@@ -213,7 +216,8 @@ pub AreFlags-same : (net other : Net) (flags copied : List Bool) → other ≡ n
 AreFlags-same net other flags copied e f h = subst (λ (w : Net). AreFlags w copied) (sym e) (subst (AreFlags net) (sym f) h)
 
 -- the kind of a point, by its flag
-pub kind_by_flag : (net : Net) (flags : List Bool) → All (IsActWithin net.places) net.acts → AreFlags net flags → (p : ℕ) (flag : Bool) → 0 < p → p ≤ length net.places → flag ≡ get_or flags (p - 1) flag
+pub kind_by_flag : (net : Net) (flags : List Bool) → All (IsActWithin net.places) net.acts → AreFlags net flags
+    → (p : ℕ) (flag : Bool) → 0 < p → p ≤ length net.places → flag ≡ get_or flags (p - 1) flag
     → kind_of net p ≡ (if flag then Shared else Private)
 kind_by_flag net flags acts h p flag low high read =
     let off : nat_eq p 0 ≡ false = grind (arith, nat_tests) in

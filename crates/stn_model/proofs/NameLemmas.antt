@@ -32,7 +32,8 @@ pub push_name : (names all : List (List ℕ)) (name : List ℕ) → all ≡ name
 push_name names all name is lacks h = subst (AllPairs (λ x y. x ≢ y)) (sym is) (all_pairs_push (λ x y. x ≢ y) names name h (names_lack name names lacks))
 
 -- what `find` lacks is not `z`, and no point has it
-pub point_lacks : (net : Net) (name : List ℕ) → is_some (find_point net name) ≡ false → (bytes_eq name (122 ∷ []) ≡ false) × (is_some (position (bytes_eq name) (point_names net)) ≡ false)
+pub point_lacks : (net : Net) (name : List ℕ) → is_some (find_point net name) ≡ false
+    → (bytes_eq name (122 ∷ []) ≡ false) × (is_some (position (bytes_eq name) (point_names net)) ≡ false)
 point_lacks net name h = parts (bytes_eq name (122 ∷ [])) (position (bytes_eq name) (point_names net)) h
   where
     parts : (b : Bool) (o : Option ℕ) → is_some (if b then Some 0 else option_map (λ n. n + 1) o) ≡ false → (b ≡ false) × (is_some o ≡ false)

@@ -102,7 +102,10 @@ agents_added n net es name bytes lean r view same found none put =
 
 -- the places that contracts see, after a name that `find` lacks is put in
 pub point_absent : (n : Inside) (name : List ℕ) → is_some (find_point (view_of n) name) ≡ false → lookup (λ k. bytes_eq name k.items) n.places.entries ≡ None
-point_absent n name h = none_of _ (sym (some_index (λ k. bytes_eq name k.items) n.places.entries) ∙ ap is_some (find_point-view n (bytes_eq name)) ∙ inner (bytes_eq name (122 ∷ [])) (position (bytes_eq name) (point_names (view_of n))) h)
+point_absent n name h = none_of _
+    (sym (some_index (λ k. bytes_eq name k.items) n.places.entries)
+    ∙ ap is_some (find_point-view n (bytes_eq name))
+    ∙ inner (bytes_eq name (122 ∷ [])) (position (bytes_eq name) (point_names (view_of n))) h)
   where
     none_of : {X : Type 0} (o : Option X) → is_some o ≡ false → o ≡ None
     none_of None e = refl

@@ -15,7 +15,8 @@ closed_at : (inner : ℕ → Bool) (arcs : List Constraint) (k : ℕ) → NoNega
 closed_at inner arcs k none_below w h = least_from inner arcs k k (pos 0) (none_below k) (none_below k) w h
 
 -- two cells that are least, of walks that are there
-sums_up : (inner : ℕ → Bool) (arcs : List Constraint) (k p : ℕ) (pk kp : Option ℤ) → NoNegative inner arcs → IsInnerLeast inner arcs p k pk → IsInnerLeast inner arcs k p kp → IsNotBelow pk kp
+sums_up : (inner : ℕ → Bool) (arcs : List Constraint) (k p : ℕ) (pk kp : Option ℤ) → NoNegative inner arcs
+    → IsInnerLeast inner arcs p k pk → IsInnerLeast inner arcs k p kp → IsNotBelow pk kp
     → (front rest : List Constraint) → IsInner inner arcs p k front → IsInner (with_point k inner) arcs k p rest → pos 0 ≤ℤ arcs_weight (front ++ rest)
 sums_up inner arcs k p None kp none_below is_pk is_kp sum front rest to from = absurd (is_pk front to)
 sums_up inner arcs k p (Some a) None none_below is_pk is_kp sum front rest to from = absurd (none_from inner arcs k p is_kp rest from)
@@ -38,7 +39,9 @@ stays_nonnegative inner arcs k cell none_below least sums p w h =
             | inl g ↦ none_below p w g
             | inr c ↦ elim (inner p) as (λ b. inner p ≡ b → pos 0 ≤ℤ arcs_weight w) [
               | true ↦ λ here.
-                  let turned = closed_at inner arcs k none_below (c.rest ++ c.front) (inner_joined (with_point k inner) arcs k p k c.rest c.front (wider inner k p here) c.from (inner_wider inner arcs k p k c.front c.to)) in
+                  let turned = closed_at inner arcs k none_below (c.rest ++ c.front)
+                  (inner_joined (with_point k inner) arcs k p k c.rest c.front (wider inner k p here) c.from
+                  (inner_wider inner arcs k p k c.front c.to)) in
                   let e = ap arcs_weight c.whole in
                   let s = arcs_weight-append c.front c.rest in
                   let r = arcs_weight-append c.rest c.front in
@@ -51,7 +54,8 @@ stays_nonnegative inner arcs k cell none_below least sums p w h =
 -- the least bound among the arcs from i to j
 unfoldable pub LeastArc : List Constraint → ℕ → ℕ → Option ℤ → Type 0
 LeastArc arcs i j None = (a : Constraint) → Contains arcs a → a.from.0 ≡ i → a.to.0 ≡ j → ⊥
-LeastArc arcs i j (Some b) = ((a : Constraint) × Contains arcs a × (a.from.0 ≡ i) × (a.to.0 ≡ j) × (a.bound ≡ b)) × ((a : Constraint) → Contains arcs a → a.from.0 ≡ i → a.to.0 ≡ j → b ≤ℤ a.bound)
+LeastArc arcs i j (Some b) = ((a : Constraint) × Contains arcs a × (a.from.0 ≡ i) × (a.to.0 ≡ j) × (a.bound ≡ b))
+    × ((a : Constraint) → Contains arcs a → a.from.0 ≡ i → a.to.0 ≡ j → b ≤ℤ a.bound)
 
 first_or_later : (a : Constraint) (arcs : List Constraint) (x : Constraint) → Contains (a ∷ arcs) x → (a ≡ x) ⊎ Contains arcs x
 first_or_later a arcs x h = elim (Contains-append_cases (a ∷ []) arcs x h) [
@@ -95,7 +99,8 @@ pub arc_least : (arcs : List Constraint) (i j : ℕ) → LeastArc arcs i j (boun
 unfolding LeastArc
 arc_least [] i j = λ a c f e. absurd (let low : c.0 < 0 = c.1 in omega arith)
 arc_least (a ∷ arcs) i j =
-    elim ((a.from.0 == i) && (a.to.0 == j)) as (λ t. ((a.from.0 == i) && (a.to.0 == j)) ≡ t → LeastArc (a ∷ arcs) i j (if t then lesser (bound_of arcs i j) (Some a.bound) else bound_of arcs i j)) [
+    elim ((a.from.0 == i) && (a.to.0 == j)) as (λ t. ((a.from.0 == i) && (a.to.0 == j)) ≡ t →
+    LeastArc (a ∷ arcs) i j (if t then lesser (bound_of arcs i j) (Some a.bound) else bound_of arcs i j)) [
       | true ↦ λ t. arc_here a arcs i j (bound_of arcs i j) (grind (arith, nat_tests)) (grind (arith, nat_tests)) (arc_least arcs i j)
       | false ↦ λ t. arc_other a arcs i j (bound_of arcs i j) t (arc_least arcs i j)
     ] refl
@@ -124,7 +129,8 @@ pub cell-least : (arcs : List Constraint) (es : List ℕ) → NoNegative (is_in 
 cell-least arcs [] none_below i j = bound-least arcs i j
 cell-least arcs (k ∷ es) none_below i j =
     let before : NoNegative (is_in es) arcs = λ p w h. none_below p w (inner_wider (is_in es) arcs k p p w h) in
-    eliminates (is_in es) arcs k i j (cell_of arcs es i j) (cell_of arcs es i k) (cell_of arcs es k j) (before k) (cell-least arcs es before i j) (cell-least arcs es before i k) (cell-least arcs es before k j)
+    eliminates (is_in es) arcs k i j (cell_of arcs es i j) (cell_of arcs es i k) (cell_of arcs es k j)
+    (before k) (cell-least arcs es before i j) (cell-least arcs es before i k) (cell-least arcs es before k j)
 
 pub cells_are_least : CellsAreLeast
 cells_are_least = cell-least

@@ -33,13 +33,15 @@ goes_exit inner arcs m j (a ∷ w) out h =
       | false ↦ λ t. record { at = m; front = []; rest = a ∷ w; whole = refl; to = refl; outside = t; from = inr (h.1, h.2, h.3) }
     ] refl
 
-pub inner_exit : (inner : ℕ → Bool) (arcs : List Constraint) (i j : ℕ) (w : List Constraint) → inner j ≡ false → IsInner every arcs i j w → Exit inner arcs (λ m. IsInner inner arcs i m) j w
+pub inner_exit : (inner : ℕ → Bool) (arcs : List Constraint) (i j : ℕ) (w : List Constraint)
+    → inner j ≡ false → IsInner every arcs i j w → Exit inner arcs (λ m. IsInner inner arcs i m) j w
 inner_exit inner arcs i j [] out h = absurd h
 inner_exit inner arcs i j (a ∷ w) out h =
     let e = goes_exit inner arcs a.to.0 j w out h.2 in
     record { at = e.at; front = a ∷ e.front; rest = e.rest; whole = ap (λ x. a ∷ x) e.whole; to = (h.0, h.1, e.to); outside = e.outside; from = e.from }
 
-shorter : (inner : ℕ → Bool) (arcs : List Constraint) (i m : ℕ) (w front rest : List Constraint) (n : ℕ) → w ≡ front ++ rest → IsInner inner arcs i m front → length w ≤ suc n → length rest ≤ n
+shorter : (inner : ℕ → Bool) (arcs : List Constraint) (i m : ℕ) (w front rest : List Constraint) (n : ℕ)
+    → w ≡ front ++ rest → IsInner inner arcs i m front → length w ≤ suc n → length rest ≤ n
 shorter inner arcs i m w [] rest n e h short = absurd h
 shorter inner arcs i m w (a ∷ front) rest n e h short = let l = ap length e in omega (arith, l, length-append front rest)
 
@@ -93,7 +95,15 @@ inner_entry inner arcs i k (a ∷ b ∷ w) h =
         | true ↦ λ t. inl (h.0, h.1, (t, g.0, g.1, g.2))
         | false ↦ λ t. inr (record { at = a.to.0; front = a ∷ []; rest = b ∷ w; whole = refl; to = inr (h.0, h.1, refl); outside = t; from = g })
       ] refl
-      | inr e ↦ inr (record { at = e.at; front = a ∷ e.front; rest = e.rest; whole = ap (λ x. a ∷ x) e.whole; to = inr (on_one arcs i e.at a e.front h.0 h.1 e.to); outside = e.outside; from = e.from })
+      | inr e ↦ inr (record {
+        at = e.at;
+        front = a ∷ e.front;
+        rest = e.rest;
+        whole = ap (λ x. a ∷ x) e.whole;
+        to = inr (on_one arcs i e.at a e.front h.0 h.1 e.to);
+        outside = e.outside;
+        from = e.from;
+      })
     ]
 
 pub entry_of : (inner : ℕ → Bool) (arcs : List Constraint) (i k : ℕ) (w : List Constraint) → inner i ≡ false → IsInner every arcs i k w → Entry inner arcs i k w
@@ -103,7 +113,8 @@ entry_of inner arcs i k w out h =
       | inr e ↦ e
     ]
 
-shorter_front : (inner : ℕ → Bool) (arcs : List Constraint) (i m : ℕ) (w front rest : List Constraint) (n : ℕ) → w ≡ front ++ rest → IsInner inner arcs i m rest → length w ≤ suc n → length front ≤ n
+shorter_front : (inner : ℕ → Bool) (arcs : List Constraint) (i m : ℕ) (w front rest : List Constraint) (n : ℕ)
+    → w ≡ front ++ rest → IsInner inner arcs i m rest → length w ≤ suc n → length front ≤ n
 shorter_front inner arcs i m w front [] n e h short = absurd h
 shorter_front inner arcs i m w front (a ∷ rest) n e h short = let l = ap length e in omega (arith, l, length-append front (a ∷ rest))
 

@@ -29,11 +29,13 @@ abbrev pub IsLeastOf : (ℕ → Bool) → (ℕ → Option ℤ) → Option ℤ �
 IsLeastOf among sum None = (m : ℕ) → among m ≡ true → sum m ≡ None
 IsLeastOf among sum (Some b) = ((m : ℕ) × (among m ≡ true) × (sum m ≡ Some b)) × ((m : ℕ) → among m ≡ true → IsUpper b (sum m))
 
-inner_lower : (inner : ℕ → Bool) (arcs : List Constraint) (i j : ℕ) (o : Option ℤ) (w : List Constraint) → IsInnerLeast inner arcs i j o → IsInner inner arcs i j w → IsLower (arcs_weight w) o
+inner_lower : (inner : ℕ → Bool) (arcs : List Constraint) (i j : ℕ) (o : Option ℤ) (w : List Constraint)
+    → IsInnerLeast inner arcs i j o → IsInner inner arcs i j w → IsLower (arcs_weight w) o
 inner_lower inner arcs i j None w least h = least w h
 inner_lower inner arcs i j (Some b) w least h = least.1 w h
 
-rest_from : (arcs : List Constraint) (m j : ℕ) (finals : ℕ → Option ℤ) → NoNegative every arcs → (m ≢ j → IsInnerLeast every arcs m j (finals m)) → (rest : List Constraint) → Rest arcs m j rest → IsLower (arcs_weight rest) (reach finals j m)
+rest_from : (arcs : List Constraint) (m j : ℕ) (finals : ℕ → Option ℤ) → NoNegative every arcs → (m ≢ j → IsInnerLeast every arcs m j (finals m))
+    → (rest : List Constraint) → Rest arcs m j rest → IsLower (arcs_weight rest) (reach finals j m)
 rest_from arcs m j finals none_below least rest h =
     elim (m == j) as (λ b. (m == j) ≡ b → IsLower (arcs_weight rest) (if b then Some (pos 0) else finals m)) [
       | true ↦ λ t. let e : m ≡ j = grind (arith, nat_tests) in
@@ -43,7 +45,8 @@ rest_from arcs m j finals none_below least rest h =
     ] refl
 
 -- a walk to m weighs at least what lies between the points
-pub rest_to : (arcs : List Constraint) (m j : ℕ) (finals : ℕ → Option ℤ) → NoNegative every arcs → (m ≢ j → IsInnerLeast every arcs j m (finals m)) → (front : List Constraint) → Rest arcs j m front → IsLower (arcs_weight front) (reach finals j m)
+pub rest_to : (arcs : List Constraint) (m j : ℕ) (finals : ℕ → Option ℤ) → NoNegative every arcs → (m ≢ j → IsInnerLeast every arcs j m (finals m))
+    → (front : List Constraint) → Rest arcs j m front → IsLower (arcs_weight front) (reach finals j m)
 rest_to arcs m j finals none_below least front h =
     elim (m == j) as (λ b. (m == j) ≡ b → IsLower (arcs_weight front) (if b then Some (pos 0) else finals m)) [
       | true ↦ λ t. let e : m ≡ j = grind (arith, nat_tests) in
@@ -82,12 +85,18 @@ abbrev pub value : Option ℤ → ℤ
 value None = pos 0
 value (Some b) = b
 
-joined_from : (inner : ℕ → Bool) (arcs : List Constraint) (k m j : ℕ) (front rest : List Constraint) → IsInner inner arcs k m front → Rest arcs m j rest → Reached arcs k j (arcs_weight front +ℤ arcs_weight rest)
+joined_from : (inner : ℕ → Bool) (arcs : List Constraint) (k m j : ℕ) (front rest : List Constraint)
+    → IsInner inner arcs k m front → Rest arcs m j rest → Reached arcs k j (arcs_weight front +ℤ arcs_weight rest)
 joined_from inner arcs k m j front rest to (inl d) = (front, subst (λ p. IsInner every arcs k p front) d.1 (inner_every inner arcs k m front to), (let n = ap arcs_weight d.0 in omega (arith, ints)))
 joined_from inner arcs k m j front rest to (inr g) = (front ++ rest, inner_joined every arcs k m j front rest refl (inner_every inner arcs k m front to) g, arcs_weight-append front rest)
 
-joined_to : (inner : ℕ → Bool) (arcs : List Constraint) (j m k : ℕ) (front rest : List Constraint) → Rest arcs j m front → IsInner inner arcs m k rest → Reached arcs j k (arcs_weight front +ℤ arcs_weight rest)
-joined_to inner arcs j m k front rest (inl d) from = (rest, subst (λ p. IsInner every arcs p k rest) (sym d.1) (inner_every inner arcs m k rest from), (let n = ap arcs_weight d.0 in omega (arith, ints)))
+joined_to : (inner : ℕ → Bool) (arcs : List Constraint) (j m k : ℕ) (front rest : List Constraint)
+    → Rest arcs j m front → IsInner inner arcs m k rest → Reached arcs j k (arcs_weight front +ℤ arcs_weight rest)
+joined_to inner arcs j m k front rest (inl d) from = (
+  rest,
+  subst (λ p. IsInner every arcs p k rest) (sym d.1) (inner_every inner arcs m k rest from),
+  (let n = ap arcs_weight d.0 in omega (arith, ints)),
+)
 joined_to inner arcs j m k front rest (inr g) from = (front ++ rest, inner_joined every arcs j m k front rest refl g (inner_every inner arcs m k rest from), arcs_weight-append front rest)
 
 -- the walk of a arcs_weight that is reached, which may be empty
@@ -114,7 +123,8 @@ rest_of_to arcs m j finals least =
       | false ↦ λ t. let apart : m ≢ j = grind (arith, nat_tests) in rest_of arcs j m (finals m) (least apart)
     ] refl
 
-reached_from : (inner : ℕ → Bool) (arcs : List Constraint) (k m j : ℕ) (x y : Option ℤ) (b : ℤ) → IsInnerLeast inner arcs k m x → RestOf arcs m j y → sum_of x y ≡ Some b → Reached arcs k j b
+reached_from : (inner : ℕ → Bool) (arcs : List Constraint) (k m j : ℕ) (x y : Option ℤ) (b : ℤ)
+    → IsInnerLeast inner arcs k m x → RestOf arcs m j y → sum_of x y ≡ Some b → Reached arcs k j b
 reached_from inner arcs k m j None y b least rest h = absurd (cc)
 reached_from inner arcs k m j (Some a) None b least rest h = absurd (cc)
 reached_from inner arcs k m j (Some a) (Some c) b least rest h =
@@ -125,7 +135,8 @@ reached_from inner arcs k m j (Some a) (Some c) b least rest h =
     let s = r.2 in
     (r.0, r.1, omega (arith, ints))
 
-reached_to : (inner : ℕ → Bool) (arcs : List Constraint) (j m k : ℕ) (x y : Option ℤ) (b : ℤ) → RestOf arcs j m x → IsInnerLeast inner arcs m k y → sum_of x y ≡ Some b → Reached arcs j k b
+reached_to : (inner : ℕ → Bool) (arcs : List Constraint) (j m k : ℕ) (x y : Option ℤ) (b : ℤ)
+    → RestOf arcs j m x → IsInnerLeast inner arcs m k y → sum_of x y ≡ Some b → Reached arcs j k b
 reached_to inner arcs j m k None y b rest least h = absurd (cc)
 reached_to inner arcs j m k (Some a) None b rest least h = absurd (cc)
 reached_to inner arcs j m k (Some a) (Some c) b rest least h =
@@ -151,7 +162,8 @@ finals_from inner arcs k j among forward finals o none_below out apart is_forwar
   here : (m : ℕ) (front : List Constraint) → inner m ≡ false → m ≢ k → IsInner inner arcs k m front → among m ≡ true
   here m front away other to = among_all (among m) (arcs_weight front) (forward m) (joined m away other) (inner_lower inner arcs k m (forward m) front (is_forward m away other) to)
 
-  lower : (m : ℕ) (front rest : List Constraint) → inner m ≡ false → m ≢ k → IsInner inner arcs k m front → Rest arcs m j rest → IsLower (arcs_weight front +ℤ arcs_weight rest) (sum_of (forward m) (reach finals j m))
+  lower : (m : ℕ) (front rest : List Constraint) → inner m ≡ false → m ≢ k → IsInner inner arcs k m front
+      → Rest arcs m j rest → IsLower (arcs_weight front +ℤ arcs_weight rest) (sum_of (forward m) (reach finals j m))
   lower m front rest away other to from =
       sum_lower (arcs_weight front) (arcs_weight rest) (forward m) (reach finals j m) (inner_lower inner arcs k m (forward m) front (is_forward m away other) to)
       (rest_from arcs m j finals none_below (is_final m (here m front away other to)) rest from)
@@ -167,7 +179,8 @@ finals_from inner arcs k j among forward finals o none_below out apart is_forwar
         (is_forward sums.0.0 (later sums.0.0 sums.0.1).0 (later sums.0.0 sums.0.1).1)
         (rest_of_from arcs sums.0.0 j finals (is_final sums.0.0 sums.0.1)) sums.0.2,
     λ w h. all_from inner arcs k j b out apart closed
-        (λ m front rest away other to from. between b (arcs_weight front +ℤ arcs_weight rest) (sum_of (forward m) (reach finals j m)) (sums.1 m (here m front away other to)) (lower m front rest away other to from))
+        (λ m front rest away other to from. between b (arcs_weight front +ℤ arcs_weight rest) (sum_of (forward m) (reach finals j m))
+        (sums.1 m (here m front away other to)) (lower m front rest away other to from))
         (length w) w (omega arith) h,
   )
 
@@ -186,7 +199,8 @@ finals_to inner arcs k j among forward finals o none_below out apart is_forward 
   here : (m : ℕ) (rest : List Constraint) → inner m ≡ false → m ≢ k → IsInner inner arcs m k rest → among m ≡ true
   here m rest away other from = among_all (among m) (arcs_weight rest) (forward m) (joined m away other) (inner_lower inner arcs m k (forward m) rest (is_forward m away other) from)
 
-  lower : (m : ℕ) (front rest : List Constraint) → inner m ≡ false → m ≢ k → Rest arcs j m front → IsInner inner arcs m k rest → IsLower (arcs_weight front +ℤ arcs_weight rest) (sum_of (reach finals j m) (forward m))
+  lower : (m : ℕ) (front rest : List Constraint) → inner m ≡ false → m ≢ k → Rest arcs j m front
+      → IsInner inner arcs m k rest → IsLower (arcs_weight front +ℤ arcs_weight rest) (sum_of (reach finals j m) (forward m))
   lower m front rest away other to from =
       sum_lower (arcs_weight front) (arcs_weight rest) (reach finals j m) (forward m) (rest_to arcs m j finals none_below (is_final m (here m rest away other from)) front to)
       (inner_lower inner arcs m k (forward m) rest (is_forward m away other) from)
@@ -201,6 +215,7 @@ finals_to inner arcs k j among forward finals o none_below out apart is_forward 
     reached_to inner arcs j sums.0.0 k (reach finals j sums.0.0) (forward sums.0.0) b (rest_of_to arcs sums.0.0 j finals (is_final sums.0.0 sums.0.1))
         (is_forward sums.0.0 (later sums.0.0 sums.0.1).0 (later sums.0.0 sums.0.1).1) sums.0.2,
     λ w h. all_to inner arcs j k b out apart closed
-        (λ m front rest away other to from. between b (arcs_weight front +ℤ arcs_weight rest) (sum_of (reach finals j m) (forward m)) (sums.1 m (here m rest away other from)) (lower m front rest away other to from))
+        (λ m front rest away other to from. between b (arcs_weight front +ℤ arcs_weight rest) (sum_of (reach finals j m) (forward m))
+        (sums.1 m (here m rest away other from)) (lower m front rest away other to from))
         (length w) w (omega arith) h,
   )

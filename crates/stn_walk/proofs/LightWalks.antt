@@ -80,7 +80,8 @@ IsBelow n arcs = (a : Constraint) → Contains arcs a → a.from.0 < n
 unfoldable pub HasBounds : ℕ → List Constraint → Type 0
 HasBounds m arcs = (a : Constraint) → Contains arcs a → (neg_ℤ (pos m) ≤ℤ a.bound) × (a.bound ≤ℤ pos m)
 
-goes_below : (inner : ℕ → Bool) (arcs : List Constraint) (n m j : ℕ) (w : List Constraint) → IsBelow n arcs → GoesOn inner arcs m j w → (q : ℕ) → list_any (nat_eq q) (froms w) ≡ true → q < n
+goes_below : (inner : ℕ → Bool) (arcs : List Constraint) (n m j : ℕ) (w : List Constraint) → IsBelow n arcs
+    → GoesOn inner arcs m j w → (q : ℕ) → list_any (nat_eq q) (froms w) ≡ true → q < n
 unfolding IsBelow
 goes_below inner arcs n m j [] below h q there = absurd (cc)
 goes_below inner arcs n m j (a ∷ w) below h q there =
@@ -89,7 +90,8 @@ goes_below inner arcs n m j (a ∷ w) below h q there =
       | false ↦ λ t. goes_below inner arcs n a.to.0 j w below h.3 q (rw t at there)
     ] refl
 
-inner_below : (inner : ℕ → Bool) (arcs : List Constraint) (n i j : ℕ) (w : List Constraint) → IsBelow n arcs → IsInner inner arcs i j w → (q : ℕ) → list_any (nat_eq q) (froms w) ≡ true → q < n
+inner_below : (inner : ℕ → Bool) (arcs : List Constraint) (n i j : ℕ) (w : List Constraint) → IsBelow n arcs
+    → IsInner inner arcs i j w → (q : ℕ) → list_any (nat_eq q) (froms w) ≡ true → q < n
 unfolding IsBelow
 inner_below inner arcs n i j [] below h q there = absurd h
 inner_below inner arcs n i j (a ∷ w) below h q there =
@@ -115,7 +117,8 @@ times-mul : (k m : ℕ) → times k m ≡ k * m
 times-mul zero m = grind arith
 times-mul (suc k) m = let e = times-mul k m in grind arith
 
-goes_weighs : (inner : ℕ → Bool) (arcs : List Constraint) (m p j : ℕ) (w : List Constraint) → HasBounds m arcs → GoesOn inner arcs p j w → (neg_ℤ (pos (times (length w) m)) ≤ℤ arcs_weight w) × (arcs_weight w ≤ℤ pos (times (length w) m))
+goes_weighs : (inner : ℕ → Bool) (arcs : List Constraint) (m p j : ℕ) (w : List Constraint) → HasBounds m arcs
+    → GoesOn inner arcs p j w → (neg_ℤ (pos (times (length w) m)) ≤ℤ arcs_weight w) × (arcs_weight w ≤ℤ pos (times (length w) m))
 unfolding HasBounds
 goes_weighs inner arcs m p j [] bounds h = (omega (arith, ints), omega (arith, ints))
 goes_weighs inner arcs m p j (a ∷ w) bounds h =
@@ -127,7 +130,8 @@ goes_weighs inner arcs m p j (a ∷ w) bounds h =
     let rest_high = rest.1 in
     (omega (arith, ints), omega (arith, ints))
 
-inner_weighs : (inner : ℕ → Bool) (arcs : List Constraint) (m i j : ℕ) (w : List Constraint) → HasBounds m arcs → IsInner inner arcs i j w → (neg_ℤ (pos (times (length w) m)) ≤ℤ arcs_weight w) × (arcs_weight w ≤ℤ pos (times (length w) m))
+inner_weighs : (inner : ℕ → Bool) (arcs : List Constraint) (m i j : ℕ) (w : List Constraint) → HasBounds m arcs
+    → IsInner inner arcs i j w → (neg_ℤ (pos (times (length w) m)) ≤ℤ arcs_weight w) × (arcs_weight w ≤ℤ pos (times (length w) m))
 unfolding HasBounds
 inner_weighs inner arcs m i j [] bounds h = absurd h
 inner_weighs inner arcs m i j (a ∷ w) bounds h =
@@ -140,7 +144,8 @@ inner_weighs inner arcs m i j (a ∷ w) bounds h =
     (omega (arith, ints), omega (arith, ints))
 
 -- an inner least arcs_weight is light
-pub least_light : (inner : ℕ → Bool) (arcs : List Constraint) (n m i j : ℕ) (o : Option ℤ) → IsBelow n arcs → HasBounds m arcs → NoNegative inner arcs → IsInnerLeast inner arcs i j o → IfSome o (λ b. nat_abs b ≤ n * m)
+pub least_light : (inner : ℕ → Bool) (arcs : List Constraint) (n m i j : ℕ) (o : Option ℤ) → IsBelow n arcs
+    → HasBounds m arcs → NoNegative inner arcs → IsInnerLeast inner arcs i j o → IfSome o (λ b. nat_abs b ≤ n * m)
 least_light inner arcs n m i j None below bounds none_below least = tt
 least_light inner arcs n m i j (Some b) below bounds none_below least =
     let s = simplify inner arcs none_below i j least.0.0 least.0.1 in
@@ -157,11 +162,15 @@ least_light inner arcs n m i j (Some b) below bounds none_below least =
 -- where bounds are light, each cell of plain elimination is light
 pub cells_light : (arcs : List Constraint) (n m : ℕ) → IsBelow n arcs → HasBounds m arcs → n * m ≤ 2 ^ 99
     → (es : List ℕ) → NoNegative (is_in es) arcs → (i j : ℕ) → IfSome (cell_of arcs es i j) (λ w. nat_abs w ≤ 2 ^ 99)
-cells_light arcs n m below bounds small es none_below i j = weaken (cell_of arcs es i j) (least_light (is_in es) arcs n m i j (cell_of arcs es i j) below bounds none_below (cell-least arcs es none_below i j)) where
-  weaken : (o : Option ℤ) → IfSome o (λ b. nat_abs b ≤ n * m) → IfSome o (λ w. nat_abs w ≤ 2 ^ 99)
-  weaken None h = tt
-  weaken (Some b) h = omega arith
+cells_light arcs n m below bounds small es none_below i j = weaken (cell_of arcs es i j)
+    (least_light (is_in es) arcs n m i j (cell_of arcs es i j) below bounds none_below
+    (cell-least arcs es none_below i j))
+  where
+    weaken : (o : Option ℤ) → IfSome o (λ b. nat_abs b ≤ n * m) → IfSome o (λ w. nat_abs w ≤ 2 ^ 99)
+    weaken None h = tt
+    weaken (Some b) h = omega arith
 
 -- a least arcs_weight of all walks is light, so final cells stay light
-pub final_light : (arcs : List Constraint) (n m i j : ℕ) (o : Option ℤ) → IsBelow n arcs → HasBounds m arcs → NoNegative every arcs → IsInnerLeast every arcs i j o → IfSome o (λ b. nat_abs b ≤ n * m)
+pub final_light : (arcs : List Constraint) (n m i j : ℕ) (o : Option ℤ) → IsBelow n arcs → HasBounds m arcs
+    → NoNegative every arcs → IsInnerLeast every arcs i j o → IfSome o (λ b. nat_abs b ≤ n * m)
 final_light arcs = least_light every arcs

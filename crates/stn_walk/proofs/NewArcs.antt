@@ -41,7 +41,8 @@ old_or_new inner arcs new i j (a ∷ b ∷ w) out h =
     ]
 
 -- where an arc is the least of the new ones, the lesser of the cell and its bound is the cell
-pub publishes : (inner : ℕ → Bool) (arcs new : List Constraint) (i j : ℕ) (c o : Option ℤ) → IsOutside inner new → IsInnerLeast inner arcs i j c → LeastArc new i j o → IsInnerLeast inner (arcs ++ new) i j (lesser c o)
+pub publishes : (inner : ℕ → Bool) (arcs new : List Constraint) (i j : ℕ) (c o : Option ℤ) → IsOutside inner new
+    → IsInnerLeast inner arcs i j c → LeastArc new i j o → IsInnerLeast inner (arcs ++ new) i j (lesser c o)
 unfolding LeastArc
 publishes inner arcs new i j None None out is_c is_o = λ w h. elim (old_or_new inner arcs new i j w out h) [ inl g ↦ is_c w g | inr n ↦ is_o n.0 n.1 n.2 n.3 ]
 publishes inner arcs new i j (Some b) None out is_c is_o = (
@@ -65,6 +66,7 @@ publishes inner arcs new i j (Some b) (Some d) out is_c is_o =
     ] refl
 
 -- no closed walk becomes negative where no new arc is a loop
-pub publishes_nonnegative : (inner : ℕ → Bool) (arcs new : List Constraint) → IsOutside inner new → ((a : Constraint) → Contains new a → a.from.0 ≢ a.to.0) → NoNegative inner arcs → NoNegative inner (arcs ++ new)
+pub publishes_nonnegative : (inner : ℕ → Bool) (arcs new : List Constraint) → IsOutside inner new
+    → ((a : Constraint) → Contains new a → a.from.0 ≢ a.to.0) → NoNegative inner arcs → NoNegative inner (arcs ++ new)
 publishes_nonnegative inner arcs new out loops none_below p w h =
     elim (old_or_new inner arcs new p p w out h) [ inl g ↦ none_below p w g | inr n ↦ absurd (loops n.0 n.1 (n.2 ∙ sym n.3)) ]

@@ -144,7 +144,8 @@ module _ (list : List Constraint) (i j : ℕ) (ns : List ℕ) where
     weight_on : weight list (take (many + 1) ns) ≡ weight list (take many ns) +ℤ bound_at list (get_or ns many 0)
     weight_on = let e = ap (weight list) (take_more ns many 0 lt) ∙ weight-append list (take many ns) (get_or ns many 0 ∷ []) in omega (arith, ints)
 
-    later : (k : ℕ) → IsReached list i ns many t k → (new : Trail) → get_or new.points k 0 ≡ get_or t.points k 0 → take k new.arcs ≡ take k t.arcs → IsReached list i ns (many + 1) new k
+    later : (k : ℕ) → IsReached list i ns many t k → (new : Trail) → get_or new.points k 0 ≡ get_or t.points k 0
+        → take k new.arcs ≡ take k t.arcs → IsReached list i ns (many + 1) new k
     later k r new point front =
         let done = r.done in
         record {

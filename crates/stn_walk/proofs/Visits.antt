@@ -20,11 +20,13 @@ inner_wider inner arcs k i j [] h = h
 inner_wider inner arcs k i j (a ∷ w) h = (h.0, h.1, goes_wider inner arcs k a.to.0 j w h.2)
 
 -- the same of a test that lets more through
-goes_in : (inner more : ℕ → Bool) (arcs : List Constraint) (m j : ℕ) (w : List Constraint) → ((p : ℕ) → inner p ≡ true → more p ≡ true) → GoesOn inner arcs m j w → GoesOn more arcs m j w
+goes_in : (inner more : ℕ → Bool) (arcs : List Constraint) (m j : ℕ) (w : List Constraint)
+    → ((p : ℕ) → inner p ≡ true → more p ≡ true) → GoesOn inner arcs m j w → GoesOn more arcs m j w
 goes_in inner more arcs m j [] up h = h
 goes_in inner more arcs m j (a ∷ w) up h = (up m h.0, h.1, h.2, goes_in inner more arcs a.to.0 j w up h.3)
 
-pub inner_in : (inner more : ℕ → Bool) (arcs : List Constraint) (i j : ℕ) (w : List Constraint) → ((p : ℕ) → inner p ≡ true → more p ≡ true) → IsInner inner arcs i j w → IsInner more arcs i j w
+pub inner_in : (inner more : ℕ → Bool) (arcs : List Constraint) (i j : ℕ) (w : List Constraint)
+    → ((p : ℕ) → inner p ≡ true → more p ≡ true) → IsInner inner arcs i j w → IsInner more arcs i j w
 inner_in inner more arcs i j [] up h = h
 inner_in inner more arcs i j (a ∷ w) up h = (h.0, h.1, goes_in inner more arcs a.to.0 j w up h.2)
 
@@ -40,12 +42,14 @@ least_unique inner arcs i j (Some a) (Some b) h g =
     ap (λ (x : ℤ). Some x) e
 
 -- two walks that meet in a point of the set
-pub goes_joined : (inner : ℕ → Bool) (arcs : List Constraint) (k m j : ℕ) (v w : List Constraint) → inner k ≡ true → GoesOn inner arcs m k v → IsInner inner arcs k j w → GoesOn inner arcs m j (v ++ w)
+pub goes_joined : (inner : ℕ → Bool) (arcs : List Constraint) (k m j : ℕ) (v w : List Constraint)
+    → inner k ≡ true → GoesOn inner arcs m k v → IsInner inner arcs k j w → GoesOn inner arcs m j (v ++ w)
 goes_joined inner arcs k m j [] [] here h g = absurd g
 goes_joined inner arcs k m j [] (b ∷ w) here h g = (ap inner h ∙ here, g.0, g.1 ∙ sym h, g.2)
 goes_joined inner arcs k m j (a ∷ v) w here h g = (h.0, h.1, h.2, goes_joined inner arcs k a.to.0 j v w here h.3 g)
 
-pub inner_joined : (inner : ℕ → Bool) (arcs : List Constraint) (i k j : ℕ) (v w : List Constraint) → inner k ≡ true → IsInner inner arcs i k v → IsInner inner arcs k j w → IsInner inner arcs i j (v ++ w)
+pub inner_joined : (inner : ℕ → Bool) (arcs : List Constraint) (i k j : ℕ) (v w : List Constraint)
+    → inner k ≡ true → IsInner inner arcs i k v → IsInner inner arcs k j w → IsInner inner arcs i j (v ++ w)
 inner_joined inner arcs i k j [] w here h g = absurd h
 inner_joined inner arcs i k j (a ∷ v) w here h g = (h.0, h.1, goes_joined inner arcs k a.to.0 j v w here h.2 g)
 
@@ -84,7 +88,8 @@ inner_cut inner arcs k i j (a ∷ w) h =
       | inr c ↦ inr (record { front = a ∷ c.front; rest = c.rest; whole = ap (λ x. a ∷ x) c.whole; to = (h.0, h.1, c.to); from = c.from })
     ]
 
-shorter : (inner : ℕ → Bool) (arcs : List Constraint) (i k : ℕ) (w front rest : List Constraint) (n : ℕ) → w ≡ front ++ rest → IsInner inner arcs i k front → length w ≤ suc n → length rest ≤ n
+shorter : (inner : ℕ → Bool) (arcs : List Constraint) (i k : ℕ) (w front rest : List Constraint) (n : ℕ)
+    → w ≡ front ++ rest → IsInner inner arcs i k front → length w ≤ suc n → length rest ≤ n
 shorter inner arcs i k w [] rest n e h short = absurd h
 shorter inner arcs i k w (a ∷ front) rest n e h short = let l = ap length e in omega (arith, l, length-append front rest)
 
@@ -102,12 +107,15 @@ from_point inner arcs k j P base step (suc n) (a ∷ w) short h =
     ]
 
 -- all walks from k are at least this heavy
-pub least_from : (inner : ℕ → Bool) (arcs : List Constraint) (k j : ℕ) (b : ℤ) → ((w : List Constraint) → IsInner inner arcs k k w → pos 0 ≤ℤ arcs_weight w) → ((w : List Constraint) → IsInner inner arcs k j w → b ≤ℤ arcs_weight w)
+pub least_from : (inner : ℕ → Bool) (arcs : List Constraint) (k j : ℕ) (b : ℤ)
+    → ((w : List Constraint) → IsInner inner arcs k k w → pos 0 ≤ℤ arcs_weight w)
+    → ((w : List Constraint) → IsInner inner arcs k j w → b ≤ℤ arcs_weight w)
     → (w : List Constraint) → IsInner (with_point k inner) arcs k j w → b ≤ℤ arcs_weight w
 least_from inner arcs k j b closed least w h =
     from_point inner arcs k j (λ w. b ≤ℤ arcs_weight w) least (λ v w at_k le. let e = arcs_weight-append v w in let c = closed v at_k in omega (arith, ints)) (length w) w (omega arith) h
 
-pub none_from : (inner : ℕ → Bool) (arcs : List Constraint) (k j : ℕ) → ((w : List Constraint) → IsInner inner arcs k j w → ⊥) → (w : List Constraint) → IsInner (with_point k inner) arcs k j w → ⊥
+pub none_from : (inner : ℕ → Bool) (arcs : List Constraint) (k j : ℕ) → ((w : List Constraint) → IsInner inner arcs k j w → ⊥)
+    → (w : List Constraint) → IsInner (with_point k inner) arcs k j w → ⊥
 none_from inner arcs k j none w h = from_point inner arcs k j (λ w. ⊥) none (λ v w at_k f. f) (length w) w (omega arith) h
 
 pub at_point : (k : ℕ) (inner : ℕ → Bool) → with_point k inner k ≡ true
@@ -116,7 +124,8 @@ at_point k inner = let same : (k == k) ≡ true = grind (arith, nat_tests) in ap
 Attained : (ℕ → Bool) → List Constraint → ℕ → ℕ → ℤ → Type 0
 Attained inner arcs i j b = (w : List Constraint) × IsInner inner arcs i j w × (arcs_weight w ≡ b)
 
-through_attained : (inner : ℕ → Bool) (arcs : List Constraint) (k i j : ℕ) (a b : ℤ) → Attained inner arcs i k a → Attained inner arcs k j b → Attained (with_point k inner) arcs i j (a +ℤ b)
+through_attained : (inner : ℕ → Bool) (arcs : List Constraint) (k i j : ℕ) (a b : ℤ)
+    → Attained inner arcs i k a → Attained inner arcs k j b → Attained (with_point k inner) arcs i j (a +ℤ b)
 unfolding Attained
 through_attained inner arcs k i j a b (v, at_v, is_a) (w, at_w, is_b) = (
   v ++ w,

@@ -10,15 +10,21 @@ pub returns-in_default-read-clause-fewer : goal.returns-in_default-read-clause-f
 returns-in_default-read-clause-fewer g c =
     let all = c.pieces.all.items in
     λ _. loses_at_most _ _ all c.args.limit
-    (Consumes-kept (g.S.Source.state c.args.source.now).left (g.S.Source.state c.pieces.source).left (g.S.Source.state c.read.new.self).left all c.pieces.invariant.bytes c.in_default-read.ensures.bytes)
+    (Consumes-kept (g.S.Source.state c.args.source.now).left (g.S.Source.state c.pieces.source).left
+    (g.S.Source.state c.read.new.self).left
+    all c.pieces.invariant.bytes c.in_default-read.ensures.bytes)
     c.pieces.invariant.short
 
-at_end : (g : _) (c : goal.After-drop-buffer-then-count-eq0 g) → Consumes (g.S.Source.state c.args.source.now).left (g.S.Source.state c.read.new.self).left c.pieces.all.items × IsAtEnd (g.S.Source.state c.read.new.self).left
+at_end : (g : _) (c : goal.After-drop-buffer-then-count-eq0 g)
+    → Consumes (g.S.Source.state c.args.source.now).left (g.S.Source.state c.read.new.self).left c.pieces.all.items
+    × IsAtEnd (g.S.Source.state c.read.new.self).left
 at_end g c =
     let same = c.read.auto.out in
     let piece = c.pieces.auto.piece in
     let some : 0 < length c.read.new.out = omega (arith, length-take c.min-most.result c.pieces.piece) in (
-      nothing_more (g.S.Source.state c.args.source.now).left (g.S.Source.state c.pieces.source).left (g.S.Source.state c.read.new.self).left c.pieces.all.items c.read.new.out c.in-Ok-read.count c.pieces.invariant.bytes c.in-Ok-read.ensures.bytes.0 c.if-count-eq0.true,
+      nothing_more (g.S.Source.state c.args.source.now).left (g.S.Source.state c.pieces.source).left
+          (g.S.Source.state c.read.new.self).left c.pieces.all.items c.read.new.out c.in-Ok-read.count
+          c.pieces.invariant.bytes c.in-Ok-read.ensures.bytes.0 c.if-count-eq0.true,
       c.in-Ok-read.ensures.bytes.1 c.if-count-eq0.true some,
     )
 
@@ -76,5 +82,7 @@ returns-in_default-extend_from_slice-clause-fewer g c =
     let bound = c.in-Ok-read.ensures.bound in
     let few : length (all ++ more) ≤ c.args.limit = omega (arith, length-append all more) in
     λ _. loses_at_most _ _ (all ++ more) c.args.limit
-    (Consumes-trans (g.S.Source.state c.args.source.now).left (g.S.Source.state c.pieces.source).left (g.S.Source.state c.read.new.self).left all more c.pieces.invariant.bytes c.in-Ok-read.ensures.bytes.0)
+    (Consumes-trans (g.S.Source.state c.args.source.now).left
+    (g.S.Source.state c.pieces.source).left (g.S.Source.state c.read.new.self).left
+    all more c.pieces.invariant.bytes c.in-Ok-read.ensures.bytes.0)
     few

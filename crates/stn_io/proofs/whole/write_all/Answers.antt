@@ -14,7 +14,8 @@ loop-at-preserved g c =
     record {
       within = omega (arith, length-drop at bytes);
       taken = subst (Appends (g.K.Sink.state c.args.sink.now).taken (g.K.Sink.state c.write.new.self).taken) (sym (take-add at n bytes))
-          (Appends-trans (g.K.Sink.state c.args.sink.now).taken (g.K.Sink.state c.loop-at.sink).taken (g.K.Sink.state c.write.new.self).taken (take at bytes) (take n (drop at bytes)) c.loop-at.invariant.taken
+          (Appends-trans (g.K.Sink.state c.args.sink.now).taken (g.K.Sink.state c.loop-at.sink).taken
+          (g.K.Sink.state c.write.new.self).taken (take at bytes) (take n (drop at bytes)) c.loop-at.invariant.taken
           (rw take_rest at c.in-Ok.ensures.bytes));
       kept = c.in-Ok.ensures.cause.kept ∙ c.loop-at.invariant.kept;
     }

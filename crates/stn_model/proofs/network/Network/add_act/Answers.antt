@@ -18,7 +18,8 @@ use Rattle.stn_model.proofs.network.Network.add_act.Goals as goal
 pub insert_two-requires-clause-first_new : goal.insert_two-requires-clause-first_new
 insert_two-requires-clause-first_new c =
     let n = c.self.inside in
-    let passed = allowed c.args.self.now c.as_slice.result.now c.as_slice-2.result.now (to_z w64 (of_z w64 c.args.low)) (to_z w64 (of_z w64 c.args.high)) (sym c.act_refusal.ensures ∙ c.in-None.is) in
+    let passed = allowed c.args.self.now c.as_slice.result.now c.as_slice-2.result.now
+    (to_z w64 (of_z w64 c.args.low)) (to_z w64 (of_z w64 c.args.high)) (sym c.act_refusal.ensures ∙ c.in-None.is) in
     let same = c.as_slice.ensures.value ∙ sym (c.in-Ok.ensures.items ∙ c.as_slice-3.ensures.value) in
     let lacks = ap (λ (w : Net). is_some (find_point w c.in-Ok.start.items)) c.self.view_is ∙ ap (λ b. is_some (find_point c.args.self.now b)) (sym same) ∙ passed.start_lacks in
     ap (lookup (λ k. bytes_eq c.in-Ok.start.items k.items)) c.reserve.ensures.entries ∙ point_absent n c.in-Ok.start.items lacks
@@ -26,7 +27,8 @@ insert_two-requires-clause-first_new c =
 pub insert_two-requires-clause-second_new : goal.insert_two-requires-clause-second_new
 insert_two-requires-clause-second_new c =
     let n = c.self.inside in
-    let passed = allowed c.args.self.now c.as_slice.result.now c.as_slice-2.result.now (to_z w64 (of_z w64 c.args.low)) (to_z w64 (of_z w64 c.args.high)) (sym c.act_refusal.ensures ∙ c.in-None.is) in
+    let passed = allowed c.args.self.now c.as_slice.result.now c.as_slice-2.result.now
+    (to_z w64 (of_z w64 c.args.low)) (to_z w64 (of_z w64 c.args.high)) (sym c.act_refusal.ensures ∙ c.in-None.is) in
     let same = c.as_slice-2.ensures.value ∙ sym (c.in-Ok-from_slice.ensures.items ∙ c.as_slice-4.ensures.value) in
     let end = c.in-Ok-from_slice.end in
     let lacks = ap (λ (w : Net). is_some (find_point w end.items)) c.self.view_is ∙ ap (λ b. is_some (find_point c.args.self.now b)) (sym same) ∙ passed.end_lacks in
@@ -54,7 +56,13 @@ invariant_of-self-2 c =
     let fits_high : to_z w64 (of_z w64 c.args.high) ≡ c.args.high = omega (arith, ints) in
     let low = in_range c.args.low (ap is_beyond (sym fits_low) ∙ passed.low_in) in
     let high = in_range c.args.high (ap is_beyond (sym fits_high) ∙ passed.high_in) in
-    let added : Act = record { start = record { 0 = c.points-point.result }; end = record { 0 = c.points-point.result + 1 }; low = to_z w64 (of_z w64 c.args.low); high = to_z w64 (of_z w64 c.args.high) } in
+    let added : Act =
+    record {
+      start = record { 0 = c.points-point.result };
+      end = record { 0 = c.points-point.result + 1 };
+      low = to_z w64 (of_z w64 c.args.low);
+      high = to_z w64 (of_z w64 c.args.high);
+    } in
     let new_view = act_view n net c.insert_two.new.places.entries c.in-Ok.start c.in-Ok-from_slice.end c.args.agent name c.push_reserved.new.self.items
     c.points-point.result (c.points-point.result + 1) (to_z w64 (of_z w64 c.args.low)) (to_z w64 (of_z w64 c.args.high)) c.args.low c.args.high
     c.self.view_is (c.insert_two.ensures ∙ ap (λ es. es ++ (c.in-Ok.start, c.args.agent) ∷ (c.in-Ok-from_slice.end, c.args.agent) ∷ []) c.reserve.ensures.entries)
@@ -77,7 +85,13 @@ returns-clause-ok c =
     let end_is = c.in-Ok-from_slice.ensures.items ∙ c.as_slice-4.ensures.value ∙ c.in-Some-Some.ensures'.name in
     let fits_low : to_z w64 (of_z w64 c.args.low) ≡ c.args.low = omega (arith, ints) in
     let fits_high : to_z w64 (of_z w64 c.args.high) ≡ c.args.high = omega (arith, ints) in
-    let added : Act = record { start = record { 0 = c.points-point.result }; end = record { 0 = c.points-point.result + 1 }; low = to_z w64 (of_z w64 c.args.low); high = to_z w64 (of_z w64 c.args.high) } in (
+    let added : Act =
+    record {
+      start = record { 0 = c.points-point.result };
+      end = record { 0 = c.points-point.result + 1 };
+      low = to_z w64 (of_z w64 c.args.low);
+      high = to_z w64 (of_z w64 c.args.high);
+    } in (
       c.acts-number.ensures.count,
       act_view c.self.inside net c.insert_two.new.places.entries c.in-Ok.start c.in-Ok-from_slice.end c.args.agent c.args.name.now c.push_reserved.new.self.items
           c.points-point.result (c.points-point.result + 1) (to_z w64 (of_z w64 c.args.low)) (to_z w64 (of_z w64 c.args.high)) c.args.low c.args.high

@@ -11,7 +11,15 @@ invariant_of-result c =
     let low = c.self.invariant.network.horizon_low in
     let high = c.self.invariant.network.horizon_high in
     let fits : to_z w64 (of_z w64 c.self.inside.horizon) ≡ c.self.inside.horizon = omega (arith, ints) in
-    let same = same_view c.self.inside (record { horizon = to_z w64 (of_z w64 c.self.inside.horizon); agents = c.in-Ok.agents; places = c.in-Ok-clone.places; acts = c.in-Ok-from_slice.acts; given = c.in-Ok-from_slice-2.given; shared = c.in-Ok-from_slice-3.shared })
+    let same = same_view c.self.inside
+    (record {
+      horizon = to_z w64 (of_z w64 c.self.inside.horizon);
+      agents = c.in-Ok.agents;
+      places = c.in-Ok-clone.places;
+      acts = c.in-Ok-from_slice.acts;
+      given = c.in-Ok-from_slice-2.given;
+      shared = c.in-Ok-from_slice-3.shared;
+    })
     fits c.in-Ok.ensures.cases c.in-Ok-clone.ensures.cases (c.in-Ok-from_slice.ensures.items ∙ c.as_slice.ensures.value) (c.in-Ok-from_slice-2.ensures.items ∙ c.as_slice-2.ensures.value) in
     record {
       network = subst IsNetwork (sym same) c.self.invariant.network;
@@ -23,6 +31,14 @@ returns c =
     let low = c.self.invariant.network.horizon_low in
     let high = c.self.invariant.network.horizon_high in
     let fits : to_z w64 (of_z w64 c.self.inside.horizon) ≡ c.self.inside.horizon = omega (arith, ints) in
-    same_view c.self.inside (record { horizon = to_z w64 (of_z w64 c.self.inside.horizon); agents = c.in-Ok.agents; places = c.in-Ok-clone.places; acts = c.in-Ok-from_slice.acts; given = c.in-Ok-from_slice-2.given; shared = c.in-Ok-from_slice-3.shared })
+    same_view c.self.inside
+    (record {
+      horizon = to_z w64 (of_z w64 c.self.inside.horizon);
+      agents = c.in-Ok.agents;
+      places = c.in-Ok-clone.places;
+      acts = c.in-Ok-from_slice.acts;
+      given = c.in-Ok-from_slice-2.given;
+      shared = c.in-Ok-from_slice-3.shared;
+    })
     fits c.in-Ok.ensures.cases c.in-Ok-clone.ensures.cases (c.in-Ok-from_slice.ensures.items ∙ c.as_slice.ensures.value) (c.in-Ok-from_slice-2.ensures.items ∙ c.as_slice-2.ensures.value)
     ∙ c.self.view_is
