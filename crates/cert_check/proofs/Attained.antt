@@ -48,7 +48,8 @@ placed distances p d is =
     some_none : (d : ℤ) → ◌≡◌ {A = Option ℤ} None (Some d) → ⊥
     some_none d e = cc
 
-module _ (net : Net) (valid : IsNetwork net) (i : ℕ) (distances : Row) (h : IsRow net i distances) (whole : position is_missing distances ≡ None) (kept : position (is_broken distances) (arcs_of net) ≡ None) where
+module _ (net : Net) (valid : IsNetwork net) (i : ℕ) (distances : Row) (h : IsRow net i distances)
+    (whole : position is_missing distances ≡ None) (kept : position (is_broken distances) (arcs_of net) ≡ None) where
   abbrev times : List ℤ
   times = map (λ x. value x -ℤ value (distance_to distances 0)) distances
 

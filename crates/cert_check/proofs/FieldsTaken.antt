@@ -30,7 +30,9 @@ no_field line filled same none = sym same ∙ no_field_of_none filled none
 -- without a blank the place of the first one is the end
 all_before : (line : List ℕ) → position is_blank line ≡ None → length line ≤ position_or_len is_blank line
 all_before line nowhere =
-    (elim (nat_lt (position_or_len is_blank line) (length line)) as (λ t. nat_lt (position_or_len is_blank line) (length line) ≡ t → cond t (Some (position_or_len is_blank line)) None ≡ None → length line ≤ position_or_len is_blank line) [
+    (elim (nat_lt (position_or_len is_blank line) (length line)) as
+    (λ t. nat_lt (position_or_len is_blank line) (length line) ≡ t
+    → cond t (Some (position_or_len is_blank line)) None ≡ None → length line ≤ position_or_len is_blank line) [
       | true ↦ λ e h. absurd (cc)
       | false ↦ λ e h. grind (arith, nat_tests)
     ]) refl nowhere

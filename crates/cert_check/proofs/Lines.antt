@@ -73,7 +73,8 @@ pub record After (net : Net) (s : Stage) (fs : List (List ℕ)) (t : Stage) : Ty
   pub claims : (o : Option ℕ) → Stands o s → Leads net t → AllByRecursion (IsTrueOf net) (claims_in o fs)
   pub stands : (o : Option ℕ) → Stands o s → Stands (section_after o fs) t
 
-and_then_is : {A B : Type 0} (P : A → Type 0) (Q : B → Type 0) (x : Result A CertCause) (next : A → Result B CertCause) → IfOk x P → ((a : A) → P a → IfOk (next a) Q) → IfOk (and_then x next) Q
+and_then_is : {A B : Type 0} (P : A → Type 0) (Q : B → Type 0) (x : Result A CertCause) (next : A → Result B CertCause)
+    → IfOk x P → ((a : A) → P a → IfOk (next a) Q) → IfOk (and_then x next) Q
 and_then_is P Q (Ok a) next h k = k a h
 and_then_is P Q (Err c) next h k = tt
 
@@ -153,7 +154,8 @@ if_claimed net true cs h = h
 if_claimed net false cs h = tt
 
 module _ (net : Net) (valid : IsNetwork net) (i : ℕ) (row : Row) (h : IsRow net i row) (w : List ℕ) where
-  given_is : (to bound arc : List ℕ) (p : ℕ) (d : ℤ) → number_of to ≡ Some (pos p) → number_of bound ≡ Some d → p < point_count net → distance_to row p ≡ None → GivesDistance net row p d
+  given_is : (to bound arc : List ℕ) (p : ℕ) (d : ℤ) → number_of to ≡ Some (pos p)
+      → number_of bound ≡ Some d → p < point_count net → distance_to row p ≡ None → GivesDistance net row p d
       → After net (stage.Section i row) (w ∷ to ∷ bound ∷ arc ∷ []) (stage.Section i (set row p (Some d)))
   given_is to bound arc p d named said lt fresh g = record {
     sound = given_is_row net i row h p d lt fresh g;
@@ -220,7 +222,9 @@ from_word w e =
     (bytes_eq w (codes "cycle")) (bytes_eq w (codes "end")) e
   where
     by : (a b c d e f g : Bool)
-        → cond a (Some word.Consistent) (cond b (Some word.Inconsistent) (cond c (Some word.From) (cond d (Some word.To) (cond e (Some word.Holds) (cond f (Some word.Cycle) (cond g (Some word.End) None)))))) ≡ Some word.From
+        → cond a (Some word.Consistent) (cond b (Some word.Inconsistent) (cond c (Some word.From) (cond d (Some word.To)
+        (cond e (Some word.Holds) (cond f (Some word.Cycle) (cond g (Some word.End) None))))))
+        ≡ Some word.From
         → c ≡ true
     by true b c d e f g h = absurd (cc)
     by false true c d e f g h = absurd (cc)

@@ -27,7 +27,9 @@ stage_is net stage.CycleDue h = tt
 stage_is net (stage.EndDue b) h = tt
 stage_is net (stage.Ended b) h = tt
 
-module _ (net : Net) (first : ℕ) (bytes : List ℕ) (s : Stage) (rest : List ℕ) (used count : ℕ) (line left : List ℕ) (used_after count_after : ℕ) (h : IsLeft net first bytes s rest used count) (taken : IsTaken rest used count line left used_after count_after) where
+module _ (net : Net) (first : ℕ) (bytes : List ℕ) (s : Stage) (rest : List ℕ) (used count : ℕ)
+    (line left : List ℕ) (used_after count_after : ℕ) (h : IsLeft net first bytes s rest used count)
+    (taken : IsTaken rest used count line left used_after count_after) where
   turn : (r : Result Stage CertCause) → line_does net s line ≡ r → verdict_of net first bytes ≡ conclude r (first + count) (λ t. read_from net t (first + count + 1) (lines left))
   turn r does =
       h.said ∙ ap (read_from net s (first + count)) taken.first.splits

@@ -84,6 +84,8 @@ module _ (net : Net) (valid : IsNetwork net) where
       let many = two_arcs ns c in
       let len = length-map decimal ns in
       let enough : nat_lt (length fs) 2 ≡ false = grind (arith, nat_tests) in
-      ap (λ (b : Bool). if b then Err cause.FieldCount else (if not (list_all is_index fs) then Err cause.NumberBad else (if writes_cycle net fs then Ok (stage.EndDue false) else Err cause.BadCycle))) enough
+      ap (λ (b : Bool). if b then Err cause.FieldCount else
+      (if not (list_all is_index fs) then Err cause.NumberBad else
+      (if writes_cycle net fs then Ok (stage.EndDue false) else Err cause.BadCycle))) enough
       ∙ ap (λ (b : Bool). if not b then Err cause.NumberBad else (if writes_cycle net fs then Ok (stage.EndDue false) else Err cause.BadCycle)) (indices c.start c.start ns c.walk)
       ∙ ap (λ (b : Bool). if b then Ok (stage.EndDue false) else Err cause.BadCycle) (writes fs ns (numbers_are c.start c.start ns c.walk) (cycle_passes (arcs_of net) ns c normal))

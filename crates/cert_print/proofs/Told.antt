@@ -60,12 +60,14 @@ to_goes net i row p n d e lt none less ends start sum =
     ap (λ (b : Bool). if b then sum_from (distance_to row (from_at (arcs_of net) n)) (bound_at (arcs_of net) n) (pos n) else Err (cause.BadArc (pos n))) same
     ∙ ap (λ (o : Option ℤ). sum_from o (bound_at (arcs_of net) n) (pos n)) start ∙ ap Ok sum in
     let b : sum_in net row p (pos n) ≡ Ok d = sum_known net row p n d less along in
-    ap (λ (r : Result ℕ CertCause). and_then r (λ (q : ℕ). and_then (sum_in net row q (pos n)) (λ (s : ℤ). and_then (kept_as s d) (λ (k : ℤ). Ok (stage.Section i (set row q (Some k))))))) a
+    ap (λ (r : Result ℕ CertCause). and_then r
+    (λ (q : ℕ). and_then (sum_in net row q (pos n)) (λ (s : ℤ). and_then (kept_as s d) (λ (k : ℤ). Ok (stage.Section i (set row q (Some k))))))) a
     ∙ ap (λ (r : Result ℤ CertCause). and_then r (λ (s : ℤ). and_then (kept_as s d) (λ (k : ℤ). Ok (stage.Section i (set row p (Some k)))))) b
     ∙ ap (λ (r : Result ℤ CertCause). and_then r (λ (k : ℤ). Ok (stage.Section i (set row p (Some k))))) (kept_same d)
 
 -- the fields of a `to` line
-fields_go : (net : Net) (i : ℕ) (row : Row) (p n : ℕ) (d : ℤ) (next : Stage) → index_in (decimal p) ≡ Ok (pos p) → number_in (signed_decimal d) ≡ Ok d → index_in (decimal n) ≡ Ok (pos n)
+fields_go : (net : Net) (i : ℕ) (row : Row) (p n : ℕ) (d : ℤ) (next : Stage) → index_in (decimal p) ≡ Ok (pos p)
+    → number_in (signed_decimal d) ≡ Ok d → index_in (decimal n) ≡ Ok (pos n)
     → to_step net i row (pos p) d (pos n) ≡ Ok next
     → fields_do net (stage.Section i row) (codes "to" ∷ decimal p ∷ signed_decimal d ∷ decimal n ∷ []) ≡ Ok next
 fields_go net i row p n d next a b c step =
@@ -121,7 +123,13 @@ module _ (net : Net) (valid : IsNetwork net) (t : LeastWalks) (h : AreLeast net 
       let start : distance_to (row k) (from_at (arcs_of net) n) ≡ Some (time_at t.distances (from_at (arcs_of net) n)) =
       told (point_count net) t k (from_at (arcs_of net) n) h.within own (λ j before. (h.order.others j (omega arith)).0) (h.starts k lt) in
       let step = to_goes net t.source (row k) p n d (time_at t.distances (from_at (arcs_of net) n)) within none less (h.ends p within other).1 start (sym (h.tight p within other)) in
-      let fields : AllByRecursion IsField (decimal p ∷ signed_decimal d ∷ decimal n ∷ []) = (decimal_is_field p (small_point p within), (number_is_field d (low p within) (high p within), (decimal_is_field n (small_arc n less), tt))) in
+      let fields : AllByRecursion IsField (decimal p ∷ signed_decimal d ∷ decimal n ∷ []) = (
+        decimal_is_field p (small_point p within),
+        (
+          number_is_field d (low p within) (high p within),
+          (decimal_is_field n (small_arc n less), tt),
+        ),
+      ) in
       line_leads net (in_section k) (in_section (suc k)) (codes "to") (decimal p ∷ signed_decimal d ∷ decimal n ∷ []) (record { filled = refl; solid = refl }) fields refl refl
       (fields_go net t.source (row k) p n d (in_section (suc k)) (index_in_is p (small_point p within))
       (number_in_is (signed_decimal d) d (number-signed_decimal d (low p within) (high p within))) (index_in_is n (small_arc n less)) step)
@@ -175,7 +183,9 @@ module _ (net : Net) (valid : IsNetwork net) (t : LeastWalks) (h : AreLeast net 
       let middle = subst (λ xs. Leads net (in_section 0) (in_section (length t.order)) (flat_map (distance_line t) xs)) (take_all (length t.order) t.order (omega arith))
       (distances_lead (length t.order) (omega arith)) in
       subst (λ (s : Stage). Leads net s (due net (t.source + 1)) (section_text t)) (sym (due_is net t.source h.within))
-      (leads_on net (stage.FromDue t.source) (in_section (length t.order)) (due net (t.source + 1)) (line (codes "from") (decimal t.source ∷ []) ++ flat_map (distance_line t) t.order) (line (codes "holds") [])
+      (leads_on net (stage.FromDue t.source) (in_section (length t.order)) (due net (t.source + 1))
+      (line (codes "from") (decimal t.source ∷ []) ++ flat_map (distance_line t) t.order)
+      (line (codes "holds") [])
       (leads_on net (stage.FromDue t.source) (in_section 0) (in_section (length t.order)) (line (codes "from") (decimal t.source ∷ [])) (flat_map (distance_line t) t.order) first middle) last)
 
 -- the sections of points that follow each other

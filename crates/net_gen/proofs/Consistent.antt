@@ -53,7 +53,9 @@ bound_keeps times from to low high a b start end =
 
 drawn_bound_keeps : (number n from to k below : ℕ) → from < n → to < n → All (Keeps (schedule_of number n)) (drawn_bound number from to k below)
 drawn_bound_keeps number n from to k below lf lt =
-    bound_keeps (schedule_of number n) from to (drawn number k below) (drawn number (k + 1) below) (pos (time_of number from)) (pos (time_of number to)) (time_at-schedule_of number n from lf) (time_at-schedule_of number n to lt)
+    bound_keeps (schedule_of number n) from to (drawn number k below) (drawn number (k + 1) below)
+    (pos (time_of number from)) (pos (time_of number to))
+    (time_at-schedule_of number n from lf) (time_at-schedule_of number n to lt)
 
 chains_keep : (number size : ℕ) → 1 ≤ size → All (Keeps (schedule_of number (point_total size))) (chains number size)
 chains_keep number size low =

@@ -72,7 +72,8 @@ no_point_yet net size q e lt =
     omega arith) in
     rw (e, new) refl
 
-pub point_is_free : (net : Net) (size q : ℕ) → net.places ≡ map (place_at size) (range_with_len 0 q) → net.given ≡ [] → q < 2048 → point_refusal net (point_name (q / width size) (q % width size)) ≡ None
+pub point_is_free : (net : Net) (size q : ℕ) → net.places ≡ map (place_at size) (range_with_len 0 q)
+    → net.given ≡ [] → q < 2048 → point_refusal net (point_name (q / width size) (q % width size)) ≡ None
 point_is_free net size q e none lt =
     let i = div-le_self q (width size) in
     let k = mod-le q (width size) in

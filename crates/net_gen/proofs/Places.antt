@@ -56,25 +56,30 @@ length-pairs f a zero two = refl
 length-pairs f a (suc n) two =
     omega (arith, two a, length-pairs f (a + 1) n two, length-append (f a) (flat_map f (range_with_len (a + 1) n)))
 
-pub agents_more : (first net new : Net) (n : ℕ) → net ≡ record first { agents = map agent_at (range_with_len 0 n) } → new ≡ record net { agents = net.agents ++ agent_at n ∷ [] } → new ≡ record first { agents = map agent_at (range_with_len 0 (n + 1)) }
+pub agents_more : (first net new : Net) (n : ℕ) → net ≡ record first { agents = map agent_at (range_with_len 0 n) }
+    → new ≡ record net { agents = net.agents ++ agent_at n ∷ [] } → new ≡ record first { agents = map agent_at (range_with_len 0 (n + 1)) }
 agents_more first net new n e h =
     h ∙ ap (λ (m : Net). record m { agents = m.agents ++ agent_at n ∷ [] }) e
     ∙ ap (λ names. record first { agents = names }) (sym (map-range_with_len_more agent_at 0 n n (omega arith)))
 
-pub places_more : (first net new : Net) (size n : ℕ) → net ≡ record first { places = map (place_at size) (range_with_len 0 n) } → new ≡ record net { places = net.places ++ place_at size n ∷ [] } → new ≡ record first { places = map (place_at size) (range_with_len 0 (n + 1)) }
+pub places_more : (first net new : Net) (size n : ℕ) → net ≡ record first { places = map (place_at size) (range_with_len 0 n) }
+    → new ≡ record net { places = net.places ++ place_at size n ∷ [] } → new ≡ record first { places = map (place_at size) (range_with_len 0 (n + 1)) }
 places_more first net new size n e h =
     h ∙ ap (λ (m : Net). record m { places = m.places ++ place_at size n ∷ [] }) e
     ∙ ap (λ ps. record first { places = ps }) (sym (map-range_with_len_more (place_at size) 0 n n (omega arith)))
 
 -- given arcs that grow by those of each number in turn; k is the number of the draws
-pub given_more : (first net new : Net) (f : ℕ → ℕ → List Constraint) (k number n : ℕ) → k ≡ number → net ≡ record first { given = first.given ++ flat_map (f number) (range_with_len 0 n) } → new ≡ record net { given = net.given ++ f k n } → new ≡ record first { given = first.given ++ flat_map (f number) (range_with_len 0 (n + 1)) }
+pub given_more : (first net new : Net) (f : ℕ → ℕ → List Constraint) (k number n : ℕ) → k ≡ number
+    → net ≡ record first { given = first.given ++ flat_map (f number) (range_with_len 0 n) } → new ≡ record net { given = net.given ++ f k n }
+    → new ≡ record first { given = first.given ++ flat_map (f number) (range_with_len 0 (n + 1)) }
 given_more first net new f k number n same e h =
     h ∙ ap (λ (j : ℕ). record net { given = net.given ++ f j n }) same
     ∙ ap (λ (m : Net). record m { given = m.given ++ f number n }) e
     ∙ ap (λ (given : List Constraint). record first { given = given })
     (append_assoc first.given (flat_map (f number) (range_with_len 0 n)) (f number n) ∙ ap (λ (given : List Constraint). first.given ++ given) (sym (flat_map-range_with_len_more (f number) n)))
 
-pub length-given : (first net : Net) (f : ℕ → List Constraint) (n : ℕ) → ((k : ℕ) → length (f k) ≡ 2) → net ≡ record first { given = first.given ++ flat_map f (range_with_len 0 n) } → length net.given ≡ length first.given + 2 * n
+pub length-given : (first net : Net) (f : ℕ → List Constraint) (n : ℕ) → ((k : ℕ) → length (f k) ≡ 2)
+    → net ≡ record first { given = first.given ++ flat_map f (range_with_len 0 n) } → length net.given ≡ length first.given + 2 * n
 length-given first net f n two e =
     ap (λ (m : Net). length m.given) e ∙ length-append first.given (flat_map f (range_with_len 0 n)) ∙ ap (λ (k : ℕ). length first.given + k) (length-pairs f 0 n two)
 
@@ -83,7 +88,9 @@ AreTimes-from_range number n times e =
     let many : length times ≡ n = ap length e ∙ length-map-range_with_len (time_of number) 0 n in
     e ∙ ap (λ (k : ℕ). map (time_of number) (range_with_len 0 k)) (sym many)
 
-pub times_more : (first state : DrawState) (n x : ℕ) (times new : List ℕ) → times ≡ map (time_of first.number) (range_with_len 0 n) → state ≡ record first { count = n } → x ≡ drawn state.number (state.count + 1) 900000 → new ≡ times ++ x ∷ [] → new ≡ map (time_of first.number) (range_with_len 0 (n + 1))
+pub times_more : (first state : DrawState) (n x : ℕ) (times new : List ℕ) → times ≡ map (time_of first.number) (range_with_len 0 n)
+    → state ≡ record first { count = n } → x ≡ drawn state.number (state.count + 1) 900000 → new ≡ times ++ x ∷ []
+    → new ≡ map (time_of first.number) (range_with_len 0 (n + 1))
 times_more first state n x times new e at here h =
     let value : x ≡ time_of first.number n = here ∙ ap (λ (s : DrawState). drawn s.number (s.count + 1) 900000) at in
     h ∙ ap (λ (y : ℕ). times ++ y ∷ []) value
@@ -91,7 +98,10 @@ times_more first state n x times new e at here h =
     ∙ sym (map-range_with_len_more (time_of first.number) 0 n n (omega arith))
 
 -- one arc after the other
-pub bound_laid : (old mid new : Net) (from to low high : ℕ) (apart up down : ℤ) → up ≡ apart +ℤ pos high → down ≡ neg_ℤ (apart -ℤ pos low) → mid ≡ record old { given = old.given ++ record { from = record { 0 = from + 1 }; to = record { 0 = to + 1 }; bound = up } ∷ [] } → new ≡ record mid { given = mid.given ++ record { from = record { 0 = to + 1 }; to = record { 0 = from + 1 }; bound = down } ∷ [] } → new ≡ record old { given = old.given ++ bound_arcs from to apart low high }
+pub bound_laid : (old mid new : Net) (from to low high : ℕ) (apart up down : ℤ) → up ≡ apart +ℤ pos high → down ≡ neg_ℤ (apart -ℤ pos low)
+    → mid ≡ record old { given = old.given ++ record { from = record { 0 = from + 1 }; to = record { 0 = to + 1 }; bound = up } ∷ [] }
+    → new ≡ record mid { given = mid.given ++ record { from = record { 0 = to + 1 }; to = record { 0 = from + 1 }; bound = down } ∷ [] }
+    → new ≡ record old { given = old.given ++ bound_arcs from to apart low high }
 bound_laid old mid new from to low high apart up down eu ed e h =
     let there : ℤ → Constraint = λ b. record { from = record { 0 = from + 1 }; to = record { 0 = to + 1 }; bound = b } in
     let back : ℤ → Constraint = λ b. record { from = record { 0 = to + 1 }; to = record { 0 = from + 1 }; bound = b } in
@@ -101,7 +111,10 @@ bound_laid old mid new from to low high apart up down eu ed e h =
     ∙ ap (λ (b : ℤ). record old { given = old.given ++ there (apart +ℤ pos high) ∷ back b ∷ [] }) ed
 
 -- a bound round the distance of two times that were drawn
-pub bound_drawn : (old new : Net) (number count from to below low high : ℕ) (apart : ℤ) (times : List ℕ) → AreTimes number times → from < length times → to < length times → apart ≡ pos (get_or times to 0) -ℤ pos (get_or times from 0) → low ≡ drawn number (count + 1) below → high ≡ drawn number (count + 1 + 1) below → new ≡ record old { given = old.given ++ bound_arcs from to apart low high } → new ≡ record old { given = old.given ++ drawn_bound number from to (count + 1) below }
+pub bound_drawn : (old new : Net) (number count from to below low high : ℕ) (apart : ℤ) (times : List ℕ) → AreTimes number times → from < length times
+    → to < length times → apart ≡ pos (get_or times to 0) -ℤ pos (get_or times from 0) → low ≡ drawn number (count + 1) below
+    → high ≡ drawn number (count + 1 + 1) below → new ≡ record old { given = old.given ++ bound_arcs from to apart low high }
+    → new ≡ record old { given = old.given ++ drawn_bound number from to (count + 1) below }
 bound_drawn old new number count from to below low high apart times all lf lt ea el eh h =
     let start : get_or times from 0 ≡ time_of number from =
     ap (λ (ts : List ℕ). get_or ts from 0) all ∙ get_or-map-range_with_len (time_of number) 0 (length times) from from 0 lf (omega arith) in

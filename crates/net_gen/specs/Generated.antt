@@ -59,7 +59,8 @@ AreTimes number times = times ≡ map (time_of number) (range_with_len 0 (length
 -- the two arcs of a bound: the second point is from d - low to d + high after the first
 abbrev pub bound_arcs : ℕ → ℕ → ℤ → ℕ → ℕ → List Constraint
 bound_arcs from to d low high =
-    record { from = record { 0 = from + 1 }; to = record { 0 = to + 1 }; bound = d +ℤ pos high } ∷ record { from = record { 0 = to + 1 }; to = record { 0 = from + 1 }; bound = neg_ℤ (d -ℤ pos low) } ∷ []
+    record { from = record { 0 = from + 1 }; to = record { 0 = to + 1 }; bound = d +ℤ pos high }
+    ∷ record { from = record { 0 = to + 1 }; to = record { 0 = from + 1 }; bound = neg_ℤ (d -ℤ pos low) } ∷ []
 
 -- the bound round the distance of two times, with draws k and k + 1 for what it leaves below and above
 abbrev pub drawn_bound : ℕ → ℕ → ℕ → ℕ → ℕ → List Constraint
@@ -81,7 +82,9 @@ draws_before size h = point_total size + 2 * gap_total size + 4 * h
 -- from a point of agent h / 2 to one of the next
 abbrev pub handover_at : ℕ → ℕ → ℕ → List Constraint
 handover_at number size h =
-    drawn_bound number (h / 2 * width size + drawn number (draws_before size h + 1) (width size)) ((h / 2 + 1) * width size + drawn number (draws_before size h + 2) (width size)) (draws_before size h + 3) 5000
+    drawn_bound number (h / 2 * width size + drawn number (draws_before size h + 1) (width size))
+    ((h / 2 + 1) * width size + drawn number (draws_before size h + 2) (width size))
+    (draws_before size h + 3) 5000
 
 abbrev pub chains : ℕ → ℕ → List Constraint
 chains number size = flat_map (chain_at number size) (range_with_len 0 (gap_total size))

@@ -148,7 +148,8 @@ pub unchanged : (g : Graph) (last : List ℕ) (a : Arranged) (p : ℕ) → IsInO
 unchanged g last a p i tried = record { grows = record { order = i; more = omega arith; same = λ e. refl }; tried = λ e. tried }
 
 -- a point was added
-pub grown : (g : Graph) (last : List ℕ) (old new : Arranged) → IsInOrder g last old → (p : ℕ) → p < g.points → p ≢ g.root → get_or old.places.items p 0 ≡ 0 → parent g last p < g.points
+pub grown : (g : Graph) (last : List ℕ) (old new : Arranged) → IsInOrder g last old → (p : ℕ)
+    → p < g.points → p ≢ g.root → get_or old.places.items p 0 ≡ 0 → parent g last p < g.points
     → (parent g last p ≡ g.root) ⊎ (0 < get_or old.places.items (parent g last p) 0)
     → new.order.items ≡ old.order.items ++ record { 0 = p } ∷ [] → new.places.items ≡ set old.places.items p (length old.order.items + 1) → GrowsBy g last p old new
 grown g last old new i p within away fresh above_in above order_is places_is =
@@ -172,13 +173,16 @@ grows_then g last a b d p first next =
       grows = record {
         order = next.grows.order;
         more = omega arith;
-        same = λ e. let left : length a.order.items ≡ length b.order.items = omega arith in let right : length b.order.items ≡ length d.order.items = omega arith in next.grows.same right ∙ first.same left;
+        same = λ e. let left : length a.order.items ≡ length b.order.items = omega arith in
+            let right : length b.order.items ≡ length d.order.items = omega arith in
+            next.grows.same right ∙ first.same left;
       };
       tried = λ e. let right : length b.order.items ≡ length d.order.items = omega arith in next.tried right;
     }
 
 -- where nothing was added by one point more either, all these were tried
-pub tried_more : (g : Graph) (last : List ℕ) (a b d : Arranged) (n : ℕ) → Grows g last a b → (length a.order.items ≡ length b.order.items → (q : ℕ) → q < n → IsTried g last b.places.items q)
+pub tried_more : (g : Graph) (last : List ℕ) (a b d : Arranged) (n : ℕ) → Grows g last a b
+    → (length a.order.items ≡ length b.order.items → (q : ℕ) → q < n → IsTried g last b.places.items q)
     → GrowsBy g last n b d → length a.order.items ≡ length d.order.items → (q : ℕ) → q < n + 1 → IsTried g last d.places.items q
 tried_more g last a b d n first tried next e q lt =
     let low = first.more in

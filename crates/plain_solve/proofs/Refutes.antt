@@ -78,7 +78,8 @@ over_root arcs n q t w ns lt from_is to_is walk light over e = subst (IsNegative
 })
 
 -- an arc that asks for a label of p above the bound of the arc up, from 0 to p
-over_top : (arcs : List Constraint) (up n p q : ℕ) (h t : ℤ) (w ns : List ℕ) → up < length arcs → arc_at arcs up ≡ upper_arc h p → n < length arcs → from_at arcs n ≡ p → to_at arcs n ≡ q
+over_top : (arcs : List Constraint) (up n p q : ℕ) (h t : ℤ) (w ns : List ℕ) → up < length arcs
+    → arc_at arcs up ≡ upper_arc h p → n < length arcs → from_at arcs n ≡ p → to_at arcs n ≡ q
     → IsWalk arcs q 0 w → weight arcs w ≤ℤ (pos 0 -ℤ t) → h <ℤ (t -ℤ bound_at arcs n) → ns ≡ up ∷ n ∷ w → IsNegativeClosed arcs ns
 over_top arcs up n p q h t w ns up_lt up_is lt from_is to_is walk light over e =
     let top = ap (λ a. a.bound) up_is in
@@ -122,4 +123,5 @@ module _ (net : Net) (g : Graph) (o : IsOnward net g) (s : Labels) (n : ℕ) (a 
       let up_is : arc_at g.arcs.items (2 * a.from.0 - 2) ≡ upper_arc net.horizon a.from.0 =
       ap (λ arcs. arc_at arcs (2 * a.from.0 - 2)) o.arcs ∙ arc_even net (2 * a.from.0 - 2) (omega arith) (omega arith) ∙ ap (upper_arc net.horizon) (omega arith) in
       subst (λ (arcs : List Constraint). IsNegativeClosed arcs ns) o.arcs
-      (over_top g.arcs.items (2 * a.from.0 - 2) n a.from.0 a.to.0 net.horizon (time_at s.times.items a.to.0) w ns (omega (arith, length-arcs_of net)) up_is x.within r.from_is r.to_is to_z light over e)
+      (over_top g.arcs.items (2 * a.from.0 - 2) n a.from.0 a.to.0 net.horizon (time_at s.times.items a.to.0)
+      w ns (omega (arith, length-arcs_of net)) up_is x.within r.from_is r.to_is to_z light over e)

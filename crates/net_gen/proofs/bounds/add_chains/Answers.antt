@@ -17,8 +17,12 @@ loop-gap-preserved c =
     let sum : c.loop-gap.draws.count + 2 ≡ point_total c.args.size + 2 * (c.loop-gap.gap + 1) =
     ap (λ (s : DrawState). s.count + 2) c.loop-gap.invariant.draws ∙ omega arith in
     record {
-      net = given_more c.args.net.now c.loop-gap.net c.add_chain.new.net (λ (k n : ℕ). chain_at k c.args.size n) c.loop-gap.draws.number c.args.draws.now.number c.loop-gap.gap (ap (λ (s : DrawState). s.number) c.loop-gap.invariant.draws) c.loop-gap.invariant.net c.in_ok-add_chain.ensures.given;
-      draws = c.in_ok-add_chain.ensures.counted ∙ ap (λ (k : ℕ). record c.loop-gap.draws { count = k }) sum ∙ ap (λ (s : DrawState). record s { count = point_total c.args.size + 2 * (c.loop-gap.gap + 1) }) c.loop-gap.invariant.draws;
+      net = given_more c.args.net.now c.loop-gap.net c.add_chain.new.net (λ (k n : ℕ). chain_at k c.args.size n)
+          c.loop-gap.draws.number c.args.draws.now.number c.loop-gap.gap (ap (λ (s : DrawState). s.number) c.loop-gap.invariant.draws)
+          c.loop-gap.invariant.net c.in_ok-add_chain.ensures.given;
+      draws = c.in_ok-add_chain.ensures.counted
+          ∙ ap (λ (k : ℕ). record c.loop-gap.draws { count = k }) sum
+          ∙ ap (λ (s : DrawState). record s { count = point_total c.args.size + 2 * (c.loop-gap.gap + 1) }) c.loop-gap.invariant.draws;
     }
 
 pub returns-clause-many : goal.returns-clause-many

@@ -17,8 +17,13 @@ loop-handover-preserved c =
     let sum : c.loop-handover.draws.count + 4 ≡ draws_before c.args.size (c.loop-handover.handover + 1) =
     ap (λ (s : DrawState). s.count + 4) c.loop-handover.invariant.draws ∙ omega arith in
     record {
-      net = given_more c.args.net.now c.loop-handover.net c.add_handover.new.net (λ (k n : ℕ). handover_at k c.args.size n) c.loop-handover.draws.number c.args.draws.now.number c.loop-handover.handover (ap (λ (s : DrawState). s.number) c.loop-handover.invariant.draws) c.loop-handover.invariant.net c.in_ok-add_handover.ensures.given;
-      draws = c.in_ok-add_handover.ensures.counted ∙ ap (λ (k : ℕ). record c.loop-handover.draws { count = k }) sum ∙ ap (λ (s : DrawState). record s { count = draws_before c.args.size (c.loop-handover.handover + 1) }) c.loop-handover.invariant.draws;
+      net = given_more c.args.net.now c.loop-handover.net c.add_handover.new.net (λ (k n : ℕ). handover_at k c.args.size n)
+          c.loop-handover.draws.number c.args.draws.now.number c.loop-handover.handover
+          (ap (λ (s : DrawState). s.number) c.loop-handover.invariant.draws)
+          c.loop-handover.invariant.net c.in_ok-add_handover.ensures.given;
+      draws = c.in_ok-add_handover.ensures.counted
+          ∙ ap (λ (k : ℕ). record c.loop-handover.draws { count = k }) sum
+          ∙ ap (λ (s : DrawState). record s { count = draws_before c.args.size (c.loop-handover.handover + 1) }) c.loop-handover.invariant.draws;
     }
 
 pub add_handover-requires-clause-no_acts : goal.add_handover-requires-clause-no_acts

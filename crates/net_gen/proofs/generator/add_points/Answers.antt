@@ -8,7 +8,9 @@ pub new_point-requires-clause-free : goal.new_point-requires-clause-free
 new_point-requires-clause-free c =
     let small = point_total_small c.args.size c.requires.few in
     rw (c.deref.ensures.value, c.in_ok-write_point_name.ensures)
-    (point_is_free c.loop-place.net c.args.size c.loop-place.place (ap (λ (m : Net). m.places) c.loop-place.invariant) (ap (λ (m : Net). m.given) c.loop-place.invariant ∙ c.requires.no_arcs) (omega arith))
+    (point_is_free c.loop-place.net c.args.size c.loop-place.place
+    (ap (λ (m : Net). m.places) c.loop-place.invariant)
+    (ap (λ (m : Net). m.given) c.loop-place.invariant ∙ c.requires.no_arcs) (omega arith))
 
 pub loop-place-preserved : goal.loop-place-preserved
 loop-place-preserved c =

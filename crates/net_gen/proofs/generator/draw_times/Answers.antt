@@ -12,7 +12,9 @@ draw-requires-clause-room c =
 
 pub loop-place-preserved : goal.loop-place-preserved
 loop-place-preserved c = record {
-  times = times_more c.args.draws.now c.loop-place.draws c.loop-place._place c.draw.result c.loop-place.times.items c.push.new.self.items c.loop-place.invariant.times c.loop-place.invariant.draws c.draw.ensures.drawn c.in_ok-push.ensures.items;
+  times = times_more c.args.draws.now c.loop-place.draws c.loop-place._place c.draw.result
+      c.loop-place.times.items c.push.new.self.items c.loop-place.invariant.times c.loop-place.invariant.draws
+      c.draw.ensures.drawn c.in_ok-push.ensures.items;
   draws = c.draw.ensures.counted ∙ ap (λ (s : DrawState). record s { count = s.count + 1 }) c.loop-place.invariant.draws;
 }
 

@@ -72,4 +72,6 @@ returns-clause-forced c =
     subst (λ (ts : List ℤ). IsForcing g ts c.set_label.new.labels.last_arcs.items c.set_label.new.labels.raises) (sym e.times)
     (subst (λ (ls : List ℕ). IsForcing g (set s.times.items a.from.0 t) ls c.set_label.new.labels.raises) (sym e.last)
     (subst (λ (k : ℕ). IsForcing g (set s.times.items a.from.0 t) (set s.last_arcs.items a.from.0 n) k) (sym e.raises)
-    (raised g s.times.items s.last_arcs.items s.raises c.requires.forced c.requires.graph n a.from.0 a.to.0 a.bound t c.requires.arc r.from_is r.to_is r.bound_is (omega (arith, ints)) (omega (arith, ints)) (omega (arith, ints)) other)))
+    (raised g s.times.items s.last_arcs.items s.raises c.requires.forced c.requires.graph
+    n a.from.0 a.to.0 a.bound t c.requires.arc r.from_is r.to_is r.bound_is
+    (omega (arith, ints)) (omega (arith, ints)) (omega (arith, ints)) other)))

@@ -64,4 +64,5 @@ follow-preserved c =
     let len : c.len.result ≡ length c.follow.walk.items = omega (arith, c.len.ensures, c.follow.walk.ok.0) in
     subst (λ (x : ℕ). IsFollowed g s.last_arcs.items c.args.from x (set c.follow.places.items at (c.len.result + 1)) c.push.new.self.items) to_is
     (subst (λ (k : ℕ). IsFollowed g s.last_arcs.items c.args.from (to_at g.arcs.items n) (set c.follow.places.items at (k + 1)) c.push.new.self.items) (sym len)
-    (subst (λ (w : List ℕ). IsFollowed g s.last_arcs.items c.args.from (to_at g.arcs.items n) (set c.follow.places.items at (length c.follow.walk.items + 1)) w) (sym c.in_ok-push.ensures.items) f2))
+    (subst (λ (w : List ℕ). IsFollowed g s.last_arcs.items c.args.from (to_at g.arcs.items n) (set c.follow.places.items at (length c.follow.walk.items + 1)) w)
+    (sym c.in_ok-push.ensures.items) f2))

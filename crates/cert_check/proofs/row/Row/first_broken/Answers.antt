@@ -9,7 +9,8 @@ use Rattle.cert_check.proofs.row.Row.first_broken.Goals as goal
 pub returns-then-breaks : goal.returns-then-breaks
 returns-then-breaks c =
     let lt : c.loop-n.n < length (arcs_of c.args.net.now) = omega (arith, c.arcs-n-end.ensures.count) in
-    let passes : is_broken c.args.self.now (arc_at (arcs_of c.args.net.now) c.loop-n.n) ≡ true = sym (ap (is_broken c.args.self.now) c.arc.ensures.arc) ∙ sym c.breaks.ensures ∙ c.if-breaks.true in
+    let passes : is_broken c.args.self.now (arc_at (arcs_of c.args.net.now) c.loop-n.n) ≡ true =
+    sym (ap (is_broken c.args.self.now) c.arc.ensures.arc) ∙ sym c.breaks.ensures ∙ c.if-breaks.true in
     sym (first_at (is_broken c.args.self.now) (arcs_of c.args.net.now) no_arc c.loop-n.n lt c.loop-n.invariant passes)
 
 pub returns : goal.returns
