@@ -28,12 +28,17 @@ point_unknown v net fs low high no_agent =
     ap (read_point v net) (two_fields fs low high)
     ∙ ap (λ (o : Option ℕ). given o cause.NameUnknown (λ a. add_point v net a (text_at fs 1))) no_agent
 
-pub point_known : (v : Version) (net : Net) (fs : List (Bor (List ℕ))) (a : ℕ) → 2 ≤ length fs → length fs < 3 → find_agent net (text_at fs 0) ≡ Some a → add_point v net a (text_at fs 1) ≡ read_point v net (texts fs)
+pub point_known : (v : Version) (net : Net) (fs : List (Bor (List ℕ))) (a : ℕ)
+    → 2 ≤ length fs → length fs < 3 → find_agent net (text_at fs 0) ≡ Some a
+    → add_point v net a (text_at fs 1) ≡ read_point v net (texts fs)
 point_known v net fs a low high agent =
     sym (ap (read_point v net) (two_fields fs low high)
     ∙ ap (λ (o : Option ℕ). given o cause.NameUnknown (λ b. add_point v net b (text_at fs 1))) agent)
 
-pub bound_known : (net : Net) (fs : List (Bor (List ℕ))) (l h l' h' : ℤ) (i j : ℕ) → 4 ≤ length fs → length fs < 5 → number_of (text_at fs 2) ≡ Some l → number_of (text_at fs 3) ≡ Some h → find_point net (text_at fs 0) ≡ Some i → find_point net (text_at fs 1) ≡ Some j → l' ≡ l → h' ≡ h → add_bound net i j l' h' ≡ read_bound net (texts fs)
+pub bound_known : (net : Net) (fs : List (Bor (List ℕ))) (l h l' h' : ℤ) (i j : ℕ)
+    → 4 ≤ length fs → length fs < 5 → number_of (text_at fs 2) ≡ Some l → number_of (text_at fs 3) ≡ Some h
+    → find_point net (text_at fs 0) ≡ Some i → find_point net (text_at fs 1) ≡ Some j → l' ≡ l → h' ≡ h
+    → add_bound net i j l' h' ≡ read_bound net (texts fs)
 bound_known net fs l h l' h' i j low high is_low is_high is_from is_to same_low same_high =
     let to_do : ℕ → ℕ → ℤ → ℤ → Result Net TextCause = λ i j l h. add_bound net i j l h in
     let line =
@@ -83,7 +88,10 @@ in_range h within =
       | false ↦ λ e. refl
     ]) refl
 
-pub horizon_given : (fs : List (Bor (List ℕ))) (h h' : ℤ) (net : Net) → 1 ≤ length fs → length fs < 2 → number_of (text_at fs 0) ≡ Some h → h' ≡ h → ((pos 0 ≤ℤ h' × h' ≤ℤ pos greatest_bound → ⊥) → ⊥) → net ≡ record { horizon = h'; agents = []; places = []; acts = []; given = [] } → built net ≡ read_horizon (texts fs)
+pub horizon_given : (fs : List (Bor (List ℕ))) (h h' : ℤ) (net : Net)
+    → 1 ≤ length fs → length fs < 2 → number_of (text_at fs 0) ≡ Some h → h' ≡ h
+    → ((pos 0 ≤ℤ h' × h' ≤ℤ pos greatest_bound → ⊥) → ⊥)
+    → net ≡ record { horizon = h'; agents = []; places = []; acts = []; given = [] } → built net ≡ read_horizon (texts fs)
 horizon_given fs h h' net low high is_number same within is =
     let opened : ℤ → Net = λ x. record { horizon = x; agents = []; places = []; acts = []; given = [] } in
     let line =

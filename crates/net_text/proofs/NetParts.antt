@@ -38,7 +38,15 @@ pub act_line_is : (net : Net) (point : ℕ) (a b : Act) (owner at : ℕ) (agent 
 act_line_is net point a b owner at agent start low high same here owns named is is_low is_high =
     ap (λ (n : List ℕ). line (codes "act") (n ∷ act_name start ∷ signed_decimal low ∷ signed_decimal high ∷ [])) (named ∙ ap (agent_name_of net) owns)
     ∙ ap (λ (n : List ℕ). line (codes "act") (agent_name_of net (get_or net.places (at - 1) no_place).owner ∷ act_name n ∷ signed_decimal low ∷ signed_decimal high ∷ [])) is
-    ∙ ap (λ (z : ℤ). line (codes "act") (agent_name_of net (get_or net.places (at - 1) no_place).owner ∷ act_name (get_or net.places (at - 1) no_place).name ∷ signed_decimal z ∷ signed_decimal high ∷ [])) is_low
-    ∙ ap (λ (z : ℤ). line (codes "act") (agent_name_of net (get_or net.places (at - 1) no_place).owner ∷ act_name (get_or net.places (at - 1) no_place).name ∷ signed_decimal a.low ∷ signed_decimal z ∷ [])) is_high
+    ∙ ap
+    (λ (z : ℤ). line (codes "act")
+    (agent_name_of net (get_or net.places (at - 1) no_place).owner ∷ act_name (get_or net.places (at - 1) no_place).name
+    ∷ signed_decimal z ∷ signed_decimal high ∷ []))
+    is_low
+    ∙ ap
+    (λ (z : ℤ). line (codes "act")
+    (agent_name_of net (get_or net.places (at - 1) no_place).owner ∷ act_name (get_or net.places (at - 1) no_place).name
+    ∷ signed_decimal a.low ∷ signed_decimal z ∷ []))
+    is_high
     ∙ ap (λ (x : Act). act_line net (get_or net.places (at - 1) no_place) x) same
     ∙ ap (λ k. act_line net (get_or net.places (k - 1) no_place) b) here

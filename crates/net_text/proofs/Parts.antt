@@ -39,7 +39,9 @@ fed_line bytes n text at is =
 -- without a line feed the place of the first one is the end
 all_before : (bytes : List ℕ) → position (λ b. b == 10) bytes ≡ None → length bytes ≤ position_or_len is_feed bytes
 all_before bytes nowhere =
-    (elim (nat_lt (position_or_len is_feed bytes) (length bytes)) as (λ t. nat_lt (position_or_len is_feed bytes) (length bytes) ≡ t → cond t (Some (position_or_len is_feed bytes)) None ≡ None → length bytes ≤ position_or_len is_feed bytes) [
+    (elim (nat_lt (position_or_len is_feed bytes) (length bytes)) as
+    (λ t. nat_lt (position_or_len is_feed bytes) (length bytes) ≡ t
+    → cond t (Some (position_or_len is_feed bytes)) None ≡ None → length bytes ≤ position_or_len is_feed bytes) [
       | true ↦ λ e h. absurd (cc)
       | false ↦ λ e h. grind (arith, nat_tests)
     ]) refl nowhere

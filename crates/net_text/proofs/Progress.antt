@@ -15,7 +15,9 @@ abbrev pub says_from : Stage → ℕ → ℕ → List ℕ → Result NetRead Tex
 says_from s count used rest = read_from s (count + 1) used (lines rest)
 
 -- what is said once a line was taken is what its step concludes
-taken : (s : Stage) (step : Step) (count used : ℕ) (rest line left : List ℕ) (used' count' : ℕ) → IsTaken rest used count line left used' count' → step ≡ line_does s line → says_from s count used rest ≡ conclude step count' used' (λ t. says_from t count' used' left)
+taken : (s : Stage) (step : Step) (count used : ℕ) (rest line left : List ℕ) (used' count' : ℕ)
+    → IsTaken rest used count line left used' count' → step ≡ line_does s line
+    → says_from s count used rest ≡ conclude step count' used' (λ t. says_from t count' used' left)
 taken s step count used rest line left used' count' h is =
     let after : Step → ℕ → ℕ → List ℕ → Result NetRead TextError = λ p n u r. conclude p n u (λ t. says_from t n u r) in
     ap (read_from s (count + 1) used) h.first.splits
@@ -24,19 +26,26 @@ taken s step count used rest line left used' count' h is =
     ∙ ap (λ (u : ℕ). after step count' u (drop h.size rest)) (sym h.uses)
     ∙ ap (λ (r : List ℕ). after step count' used' r) (sym h.drops)
 
-pub goes_on : (said : Result NetRead TextError) (s t : Stage) (step : Step) (count used : ℕ) (rest line left : List ℕ) (used' count' : ℕ) → said ≡ says_from s count used rest → IsTaken rest used count line left used' count' → step ≡ line_does s line → step ≡ Goes t → said ≡ says_from t count' used' left
+pub goes_on : (said : Result NetRead TextError) (s t : Stage) (step : Step) (count used : ℕ) (rest line left : List ℕ) (used' count' : ℕ)
+    → said ≡ says_from s count used rest → IsTaken rest used count line left used' count' → step ≡ line_does s line → step ≡ Goes t
+    → said ≡ says_from t count' used' left
 goes_on said s t step count used rest line left used' count' so h is goes =
     so ∙ taken s step count used rest line left used' count' h is ∙ ap (λ (p : Step). conclude p count' used' (λ t. says_from t count' used' left)) goes
 
-pub ends_there : (said : Result NetRead TextError) (s : Stage) (net : Net) (step : Step) (count used : ℕ) (rest line left : List ℕ) (used' count' : ℕ) → said ≡ says_from s count used rest → IsTaken rest used count line left used' count' → step ≡ line_does s line → step ≡ Ends net → said ≡ Ok (record { net = net; used = used'; lines = count' })
+pub ends_there : (said : Result NetRead TextError) (s : Stage) (net : Net) (step : Step) (count used : ℕ) (rest line left : List ℕ) (used' count' : ℕ)
+    → said ≡ says_from s count used rest → IsTaken rest used count line left used' count' → step ≡ line_does s line → step ≡ Ends net
+    → said ≡ Ok (record { net = net; used = used'; lines = count' })
 ends_there said s net step count used rest line left used' count' so h is ends =
     so ∙ taken s step count used rest line left used' count' h is ∙ ap (λ (p : Step). conclude p count' used' (λ t. says_from t count' used' left)) ends
 
-pub fails_there : (said : Result NetRead TextError) (s : Stage) (c : TextCause) (step : Step) (count used : ℕ) (rest line left : List ℕ) (used' count' : ℕ) → said ≡ says_from s count used rest → IsTaken rest used count line left used' count' → step ≡ line_does s line → step ≡ Fails c → said ≡ Err (At count' c)
+pub fails_there : (said : Result NetRead TextError) (s : Stage) (c : TextCause) (step : Step) (count used : ℕ) (rest line left : List ℕ) (used' count' : ℕ)
+    → said ≡ says_from s count used rest → IsTaken rest used count line left used' count' → step ≡ line_does s line → step ≡ Fails c
+    → said ≡ Err (At count' c)
 fails_there said s c step count used rest line left used' count' so h is fails =
     so ∙ taken s step count used rest line left used' count' h is ∙ ap (λ (p : Step). conclude p count' used' (λ t. says_from t count' used' left)) fails
 
-pub misses : (said : Result NetRead TextError) (s : Stage) (c : TextCause) (count used : ℕ) (rest : List ℕ) → said ≡ says_from s count used rest → lines rest ≡ [] → c ≡ missing s → said ≡ Err (At (count + 1) c)
+pub misses : (said : Result NetRead TextError) (s : Stage) (c : TextCause) (count used : ℕ) (rest : List ℕ)
+    → said ≡ says_from s count used rest → lines rest ≡ [] → c ≡ missing s → said ≡ Err (At (count + 1) c)
 misses said s c count used rest so none is =
     so ∙ ap (read_from s (count + 1) used) none ∙ ap (λ (x : TextCause). Err (At (count + 1) x)) (sym is)
 
@@ -47,7 +56,9 @@ stays_within most used count rest line left used' count' within h =
     let uses : used' ≡ used + h.size = h.uses in
     let cut : length left ≡ length rest - h.size = ap length h.drops ∙ length-drop h.size rest in omega arith
 
-pub skips_on : (first most used count : ℕ) (said : Option ℕ) (rest line left : List ℕ) (used' count' : ℕ) → said ≡ first_unskipped (first + count) (lines rest) → IsTaken rest used count line left used' count' → is_skipped line ≡ true → said ≡ first_unskipped (first + count') (lines left)
+pub skips_on : (first most used count : ℕ) (said : Option ℕ) (rest line left : List ℕ) (used' count' : ℕ)
+    → said ≡ first_unskipped (first + count) (lines rest) → IsTaken rest used count line left used' count' → is_skipped line ≡ true
+    → said ≡ first_unskipped (first + count') (lines left)
 skips_on first most used count said rest line left used' count' so h skipped =
     let next : first + count + 1 ≡ first + count' = let one = h.one_more in omega arith in
     so ∙ ap (first_unskipped (first + count)) h.first.splits

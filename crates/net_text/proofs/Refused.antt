@@ -29,7 +29,9 @@ same refused.PointsClosed with now = refl
 same refused.NegativeDuration with now = refl
 same refused.OutOfMemory with now = tt
 
-pub refused_so : {T : Type 0} (r : Option NetError) (result : Result T NetError) (e : NetError) (with now : Net) → MatchOption r (IsOkUnless result refused.OutOfMemory) (IsErrOf result) → result ≡ Err e → Adds (goes_unless r with) (Err (refusal_of e)) now
+pub refused_so : {T : Type 0} (r : Option NetError) (result : Result T NetError) (e : NetError) (with now : Net)
+    → MatchOption r (IsOkUnless result refused.OutOfMemory) (IsErrOf result) → result ≡ Err e
+    → Adds (goes_unless r with) (Err (refusal_of e)) now
 refused_so {T} None result e with now h is =
     let at : IsOkUnless {T = T} (Err e) refused.OutOfMemory = subst (λ t. IsOkUnless t refused.OutOfMemory) is h in
     subst (λ x. Adds (goes_unless None with) (Err (refusal_of x)) now) (sym at) tt

@@ -84,7 +84,9 @@ along (Fails c) n k f g r h e = e
 -- after it, and so is the whole text, whatever follows. If the line ends the network, nothing else is looked at. If
 -- the text goes on, the bytes after the line are not empty, since each line takes a byte and no more are used than
 -- there are; so they end in a line feed as well, and the same holds of them.
-reads_on : (fuel : ℕ) (front rest other : List ℕ) (s : Stage) (n u : ℕ) (r : NetRead) → length front ≤ fuel → EndsInFeed front → read_from s n u (lines (front ++ rest)) ≡ Ok r → r.used ≡ u + length front → read_from s n u (lines (front ++ other)) ≡ Ok r
+reads_on : (fuel : ℕ) (front rest other : List ℕ) (s : Stage) (n u : ℕ) (r : NetRead)
+    → length front ≤ fuel → EndsInFeed front → read_from s n u (lines (front ++ rest)) ≡ Ok r → r.used ≡ u + length front
+    → read_from s n u (lines (front ++ other)) ≡ Ok r
 reads_on zero [] rest other s n u r few fed e used = absurd fed
 reads_on zero (b ∷ bs) rest other s n u r few fed e used = absurd (omega arith)
 reads_on (suc fuel) front rest other s n u r few fed e used =

@@ -15,4 +15,8 @@ returns-in_err-agent c =
     rw (p.1, p.2, c.in_err-agent.ensures.found.0) (point_unknown c.args.version c.args.net.now c.args.fields.now c.in-len2.len_at_least c.in-len2.len_below c.in_err-agent.ensures.found.1)
 
 pub returns : goal.returns
-returns c = subst (λ s. Adds s c.add_point.result c.add_point.new.net) (point_known c.args.version c.args.net.now c.args.fields.now c.in_ok-agent.agent.0 c.in-len2.len_at_least c.in-len2.len_below c.in_ok-agent.ensures.found) c.add_point.ensures
+returns c =
+    subst (λ s. Adds s c.add_point.result c.add_point.new.net)
+    (point_known c.args.version c.args.net.now c.args.fields.now c.in_ok-agent.agent.0
+    c.in-len2.len_at_least c.in-len2.len_below c.in_ok-agent.ensures.found)
+    c.add_point.ensures
