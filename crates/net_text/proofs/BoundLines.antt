@@ -1,21 +1,19 @@
 -- A `bound` line is two `arc` lines.
-use Rattle.std.proofs.Common.{◌≡◌, ℕ, ◌+◌, ◌*◌, ◌<◌, ◌≤◌, ℤ, pos, neg_ℤ, Bool, true, false, not, cond, ◌||◌, nat_eq, nat_le, List, [], ◌∷◌, ◌++◌, length, codes, Option, Some, None, Result, Ok, Err, refl, sym, ◌∙◌, ap, arith, length-append, append_assoc}
-use Rattle.std.specs.Prelude.{int_lt}
+use Rattle.std.proofs.Common.{◌≡◌, ℕ, ◌+◌, ◌*◌, ℤ, neg_ℤ, Bool, true, false, not, cond, ◌||◌, nat_eq, nat_le, List, [], ◌∷◌, length, codes, Option, Some, None, Result, Err, refl, ◌∙◌, ap, arith, length-append, append_assoc}
 use Rattle.std.specs.Option.{option_map}
 use Rattle.std.proofs.lemmas.Bool.Decides.{nat_tests}
 use Rattle.std.proofs.lemmas.Int.{ints}
 use Rattle.stn_model.specs.declared.error.NetError.TheVariants as refused
 use Rattle.stn_model.specs.declared.ids.Constraint.{Constraint}
-use Rattle.stn_model.specs.Limits.{most_arcs, greatest_bound}
+use Rattle.stn_model.specs.Limits.{most_arcs}
 use Rattle.stn_model.specs.Net.{Net, find_point}
-use Rattle.stn_model.specs.Refusals.{is_beyond, arc_refusal}
+use Rattle.stn_model.specs.Refusals.{is_beyond}
 use Rattle.net_text.specs.declared.cause.TextCause.{TextCause}
 use Rattle.net_text.specs.declared.cause.TextCause.TheVariants as cause
 use Rattle.net_text.specs.declared.stage.Stage.{Stage}
-use Rattle.net_text.specs.declared.stage.Stage.TheVariants.{Building}
 use Rattle.net_text.specs.declared.version.Version.{Version}
 use Rattle.net_text.specs.Numbers.{number_of}
-use Rattle.net_text.specs.Networks.{Step, building, given, given_number, given_point, add_arc, add_bound, read_arc, with_arcs, arc_between, goes_unless, fields_do}
+use Rattle.net_text.specs.Networks.{building, given, given_number, given_point, add_arc, add_bound, read_arc, with_arcs, arc_between, goes_unless}
 use Rattle.net_text.specs.Networks.Step.{Goes}
 use Rattle.net_text.specs.Laws.{follows, BoundIsTwoArcs}
 use Rattle.net_text.proofs.Meanings.{built}

@@ -1,8 +1,7 @@
 -- A line has at most five fields, so the seventh and all after it make no difference.
-use Rattle.std.proofs.Common.{◌≡◌, ℕ, ◌<◌, Bool, true, false, cond, List, [], ◌∷◌, length, take, Option, Some, None, Result, Ok, Err, refl, sym, ◌∙◌, ap, subst, arith}
+use Rattle.std.proofs.Common.{◌≡◌, ℕ, ◌<◌, Bool, true, false, cond, List, [], ◌∷◌, length, take, Option, Some, None, Err, refl, sym, ◌∙◌, ap, subst, arith}
 use Rattle.std.proofs.lemmas.Bool.Decides.{nat_tests}
 use Rattle.stn_model.specs.Net.{Net}
-use Rattle.net_text.specs.declared.cause.TextCause.{TextCause}
 use Rattle.net_text.specs.declared.cause.TextCause.TheVariants as cause
 use Rattle.net_text.specs.declared.stage.Next.{Next}
 use Rattle.net_text.specs.declared.stage.Stage.{Stage}
@@ -11,7 +10,7 @@ use Rattle.net_text.specs.declared.version.Version.{Version}
 use Rattle.net_text.specs.declared.words.Word.{Word}
 use Rattle.net_text.specs.declared.words.Word.TheVariants as word
 use Rattle.net_text.specs.Adding.{Takes}
-use Rattle.net_text.specs.Networks.{Step, building, counts, fields_do, read_opening, opening_line, line_in_network, network_line, line_does}
+use Rattle.net_text.specs.Networks.{building, counts, fields_do, read_opening, opening_line, line_in_network, network_line, line_does}
 use Rattle.net_text.specs.Networks.Step.{Goes, Fails}
 use Rattle.net_text.specs.Fields.{fields}
 use Rattle.net_text.specs.Lines.{is_skipped, is_text}

@@ -18,3 +18,4 @@ pub mod ReadPrefix
 pub mod SkippedLines
 pub mod PlaceLines
 pub mod BoundLines
+pub mod Scanned

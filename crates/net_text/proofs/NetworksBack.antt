@@ -1,5 +1,5 @@
 -- The plain form of a network is read as that network.
-use Rattle.std.proofs.Common.{◌≡◌, ◌≢◌, ℕ, suc, ◌+◌, ◌-◌, ◌*◌, ◌<◌, ◌≤◌, ℤ, pos, neg_ℤ, ◌≤ℤ◌, Bool, true, false, not, ◌||◌, ◌&&◌, ◌==◌, nat_eq, nat_le, List, [], ◌∷◌, ◌++◌, map, length, take, get_or, codes, cond, Option, Some, None, is_some, Result, Ok, Err, refl, sym, ap, subst, ◌∙◌, ⊎_elim, arith, length-append, if◌then◌else◌}
+use Rattle.std.proofs.Common.{◌≡◌, ◌≢◌, ℕ, suc, ◌+◌, ◌-◌, ◌*◌, ◌<◌, ◌≤◌, ℤ, pos, neg_ℤ, ◌≤ℤ◌, Bool, true, false, not, ◌||◌, ◌&&◌, ◌==◌, nat_eq, nat_le, List, [], ◌∷◌, ◌++◌, map, length, take, get_or, codes, cond, Option, Some, None, is_some, Ok, Err, refl, sym, ap, subst, ◌∙◌, ⊎_elim, arith, length-append, if◌then◌else◌}
 use Rattle.std.specs.Prelude.{int_lt}
 use Rattle.std.specs.List.{All, AllPairs, AllByRecursion, flat_map, list_all, position}
 use Rattle.std.specs.Option.{option_map}
@@ -17,9 +17,9 @@ use Rattle.stn_model.specs.declared.ids.Lean.{Lean}
 use Rattle.stn_model.specs.declared.ids.Lean.TheVariants.{Early, Late, Middle}
 use Rattle.stn_model.specs.declared.error.NetError.{NetError}
 use Rattle.stn_model.specs.declared.error.NetError.TheVariants as refused
-use Rattle.stn_model.specs.Limits.{most_agents, most_points, most_arcs, greatest_bound}
+use Rattle.stn_model.specs.Limits.{most_points, most_arcs, greatest_bound}
 use Rattle.stn_model.specs.Net.{Net, Agent, Place, agent_names, point_names, point_count, no_agent, no_place, agent_name_of, point_name_of, find_point, act_start_name, act_end_name, with_act}
-use Rattle.stn_model.specs.Refusals.{is_name, is_beyond, agent_refusal, point_refusal, act_refusal, arc_refusal}
+use Rattle.stn_model.specs.Refusals.{is_name, is_beyond, agent_refusal, act_refusal, arc_refusal}
 use Rattle.stn_model.specs.Valid.{IsNetwork, IsArcWithin, IsActWithin}
 use Rattle.net_text.specs.declared.cause.TextCause.TheVariants as cause
 use Rattle.net_text.specs.declared.stage.Stage.{Stage}
@@ -30,7 +30,7 @@ use Rattle.net_text.specs.Lines.{lines, is_skipped}
 use Rattle.net_text.specs.Words.{lean_of, lean_word}
 use Rattle.net_text.specs.Versions.{version_word, most_points_1, is_full_in, or_full, point_refusal_in, least_version}
 use Rattle.net_text.specs.Networks.{building, given, fields_do, conclude, read_from, text_of, with_agent, with_point, with_arcs, arc_between, add_agent, add_point, add_act, add_arc, add_horizon, given_number, given_agent, given_point, goes_unless}
-use Rattle.net_text.specs.Networks.Step.{Goes, Fails}
+use Rattle.net_text.specs.Networks.Step.{Goes}
 use Rattle.net_text.specs.Laws.{IsReadBackIn, PlainFormIsRead}
 use Rattle.net_text.specs.Plain.{spaced, line, agent_line, point_line, act_name, act_line, place_lines, arc_line, plain_text, plain_lines}
 use Rattle.net_text.proofs.FieldsOfLines.{IsField, is_solid, filled_from_length}

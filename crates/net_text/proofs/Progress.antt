@@ -1,13 +1,18 @@
 -- How a text is read on, line by line.
-use Rattle.std.proofs.Common.{◌≡◌, ℕ, ◌+◌, ◌-◌, ◌≤◌, Bool, true, cond, List, [], ◌∷◌, length, drop, Option, Some, Result, Ok, Err, refl, sym, ◌∙◌, ap, arith, length-drop}
+use Rattle.std.proofs.Common.{◌≡◌, ℕ, ◌+◌, ◌-◌, ◌≤◌, Bool, true, cond, List, [], length, drop, Option, Some, Result, Ok, Err, refl, sym, ◌∙◌, ap, arith, length-drop}
 use Rattle.stn_model.specs.Net.{Net}
 use Rattle.net_text.specs.declared.cause.TextCause.{TextCause}
 use Rattle.net_text.specs.declared.cause.TextError.{TextError}
 use Rattle.net_text.specs.declared.cause.TextError.TheVariants.{At}
 use Rattle.net_text.specs.declared.read.NetRead.{NetRead}
+use Rattle.net_text.specs.declared.version.Version.{Version}
 use Rattle.net_text.specs.declared.stage.Stage.{Stage}
+use Rattle.net_text.specs.declared.stage.Stage.TheVariants.{Building}
+use Rattle.net_text.specs.declared.stage.Next.{Next}
+use Rattle.net_text.specs.declared.stage.Next.TheVariants as next
+use Rattle.net_text.specs.Adding.{Takes}
 use Rattle.net_text.specs.Networks.Step.{Goes, Ends, Fails}
-use Rattle.net_text.specs.Lines.{lines, Sized, IsTaken, first_unskipped, is_skipped}
+use Rattle.net_text.specs.Lines.{lines, IsTaken, first_unskipped, is_skipped}
 use Rattle.net_text.specs.Networks.{Step, line_does, conclude, read_from, missing}
 
 -- what is said from a stage on, where so many lines and bytes were taken
@@ -37,6 +42,14 @@ pub ends_there : (said : Result NetRead TextError) (s : Stage) (net : Net) (step
     → said ≡ Ok (record { net = net; used = used'; lines = count' })
 ends_there said s net step count used rest line left used' count' so h is ends =
     so ∙ taken s step count used rest line left used' count' h is ∙ ap (λ (p : Step). conclude p count' used' (λ t. says_from t count' used' left)) ends
+
+-- the same, where the line is known by what comes of it
+pub ended : {v : Version} (said : Result NetRead TextError) (s after : Stage) (net : Net) (n : Next) (count used : ℕ) (rest line left : List ℕ) (used' count' : ℕ)
+    → said ≡ says_from s count used rest → IsTaken rest used count line left used' count' → Takes n after (line_does s line)
+    → n ≡ next.Ends → after ≡ Building v net → said ≡ Ok (record { net = net; used = used'; lines = count' })
+ended said s after net n count used rest line left used' count' so h does is builds =
+    let step : line_does s line ≡ Ends net = (rw (is, builds) at does) in
+    ends_there said s net (Ends net) count used rest line left used' count' so h (sym step) refl
 
 pub fails_there : (said : Result NetRead TextError) (s : Stage) (c : TextCause) (step : Step) (count used : ℕ) (rest line left : List ℕ) (used' count' : ℕ)
     → said ≡ says_from s count used rest → IsTaken rest used count line left used' count' → step ≡ line_does s line → step ≡ Fails c

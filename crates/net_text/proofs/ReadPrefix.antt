@@ -1,6 +1,6 @@
 -- The prefix of a text that was read is read by itself.
-use Rattle.std.proofs.Common.{◌≡◌, ℕ, zero, suc, ◌+◌, ◌≤◌, ◌==◌, Bool, true, false, cond, ◌⊎◌, inl, inr, List, [], ◌∷◌, ◌++◌, length, take, Result, Ok, Err, refl, sym, ◌∙◌, ap, subst, arith, length-append}
-use Rattle.std.specs.List.{slice_split, onto_first}
+use Rattle.std.proofs.Common.{◌≡◌, ℕ, zero, suc, ◌+◌, ◌≤◌, ◌==◌, Bool, true, false, cond, ◌⊎◌, inl, inr, List, [], ◌∷◌, ◌++◌, length, take, Result, Ok, refl, sym, ◌∙◌, ap, arith, length-append}
+use Rattle.std.specs.List.{onto_first}
 use Rattle.std.proofs.lemmas.Bool.Decides.{nat_tests}
 use Rattle.std.proofs.lemmas.List.{take_all, append-nil, length-take-le}
 use Rattle.std.proofs.lemmas.List.Splits.{slice_split-cons_no}
@@ -9,10 +9,10 @@ use Rattle.net_text.specs.declared.cause.TextError.{TextError}
 use Rattle.net_text.specs.declared.read.NetRead.{NetRead}
 use Rattle.net_text.specs.declared.stage.Stage.{Stage}
 use Rattle.net_text.specs.declared.stage.Stage.TheVariants.{Start}
-use Rattle.net_text.specs.Lines.{parts, line_of, lines_of, lines, Sized, EndsInFeed}
+use Rattle.net_text.specs.Lines.{parts, line_of, lines_of, lines, Sized}
 use Rattle.net_text.specs.Networks.{Step, line_does, conclude, read_from, text_of}
 use Rattle.net_text.specs.Networks.Step.{Goes, Ends, Fails}
-use Rattle.net_text.specs.Laws.{IsPrefixRead, PrefixIsRead}
+use Rattle.net_text.specs.Laws.{PrefixIsRead}
 use Rattle.net_text.proofs.Parts.{lines_before}
 use Rattle.net_text.proofs.UsedLines.{Cut, nothing_after_is_read}
 

@@ -1,5 +1,5 @@
 -- A network's refusal, as the answer of a line.
-use Rattle.std.proofs.Common.{◌≡◌, Bool, true, false, cond, Option, Some, None, Result, Ok, Err, refl, sym, ◌∙◌, ap, subst}
+use Rattle.std.proofs.Common.{◌≡◌, Bool, true, false, cond, Option, Some, None, Result, Ok, Err, refl, sym, ap, subst}
 use Rattle.std.specs.Option.{MatchOption}
 use Rattle.std.specs.Result.{IsOkUnless, IsErrOf, IfOk}
 use Rattle.stn_model.specs.declared.error.NetError.{NetError}

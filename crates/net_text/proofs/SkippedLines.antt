@@ -1,5 +1,5 @@
 -- A line that is skipped changes only the numbers of lines and bytes.
-use Rattle.std.proofs.Common.{◌≡◌, ◌≢◌, ℕ, zero, suc, ◌+◌, ◌≤◌, ◌==◌, Bool, true, cond, ◌⊎◌, inl, inr, List, [], ◌∷◌, ◌++◌, length, get_or, Result, Ok, Err, refl, sym, ◌∙◌, ap, subst, arith, length-append}
+use Rattle.std.proofs.Common.{◌≡◌, ◌≢◌, ℕ, zero, suc, ◌+◌, ◌≤◌, ◌==◌, Bool, true, cond, ◌⊎◌, inl, inr, List, [], ◌∷◌, ◌++◌, length, get_or, Result, Ok, refl, sym, ◌∙◌, ap, subst, arith, length-append}
 use Rattle.std.specs.List.{All}
 use Rattle.std.proofs.lemmas.Bool.{ne_eqb}
 use Rattle.std.proofs.lemmas.List.Splits.{slice_split_at}
@@ -10,11 +10,11 @@ use Rattle.net_text.specs.declared.stage.Stage.{Stage}
 use Rattle.net_text.specs.declared.stage.Stage.TheVariants.{Start}
 use Rattle.net_text.specs.Fields.{fields}
 use Rattle.net_text.specs.Lines.{line_of, lines_of, lines, Sized, EndsInFeed, is_skipped, is_text}
-use Rattle.net_text.specs.Networks.{Step, fields_do, line_does, conclude, read_from, text_of}
+use Rattle.net_text.specs.Networks.{Step, fields_do, line_does, conclude, read_from}
 use Rattle.net_text.specs.Networks.Step.{Goes, Ends, Fails}
 use Rattle.net_text.specs.Laws.{moved, SkippedLineMoves}
 use Rattle.net_text.proofs.Parts.{lines_before}
-use Rattle.net_text.proofs.UsedLines.{Cut, cut, left_fed, lines_cut}
+use Rattle.net_text.proofs.UsedLines.{cut, left_fed, lines_cut}
 
 step_moved : (d : Step) (n k j size : ℕ) (f g : Stage → Result NetRead TextError) → k ≡ j + size → ((t : Stage) → f t ≡ moved size (g t))
     → conclude d (n + 1) k f ≡ moved size (conclude d n j g)

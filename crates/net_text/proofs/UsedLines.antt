@@ -1,6 +1,6 @@
 -- What stands after the lines that a text uses makes no difference.
-use Rattle.std.proofs.Common.{◌≡◌, ℕ, zero, suc, ◌+◌, ◌<◌, ◌≤◌, ◌==◌, Bool, true, false, cond, ◌⊎◌, inl, inr, List, [], ◌∷◌, ◌++◌, length, Result, Ok, Err, refl, sym, ◌∙◌, ap, subst, arith, append_assoc, length-append}
-use Rattle.std.specs.List.{slice_split, onto_first}
+use Rattle.std.proofs.Common.{◌≡◌, ℕ, zero, suc, ◌+◌, ◌<◌, ◌≤◌, ◌==◌, Bool, true, false, cond, ◌⊎◌, inl, inr, List, [], ◌∷◌, ◌++◌, length, Result, Ok, refl, sym, ◌∙◌, ap, subst, arith, append_assoc, length-append}
+use Rattle.std.specs.List.{onto_first}
 use Rattle.std.proofs.lemmas.Bool.Decides.{nat_tests}
 use Rattle.std.proofs.lemmas.List.Splits.{slice_split-cons_no}
 use Rattle.net_text.specs.declared.cause.TextError.{TextError}
@@ -8,7 +8,7 @@ use Rattle.net_text.specs.declared.read.NetRead.{NetRead}
 use Rattle.net_text.specs.declared.stage.Stage.{Stage}
 use Rattle.net_text.specs.declared.stage.Stage.TheVariants.{Start}
 use Rattle.net_text.specs.Lines.{parts, line_of, lines_of, lines, Sized, EndsInFeed}
-use Rattle.net_text.specs.Networks.{Step, line_does, conclude, read_from, text_of}
+use Rattle.net_text.specs.Networks.{Step, line_does, conclude, read_from}
 use Rattle.net_text.specs.Networks.Step.{Goes, Ends, Fails}
 use Rattle.net_text.specs.Laws.{NothingAfterIsRead}
 use Rattle.net_text.proofs.Parts.{lines_before, some_byte}

@@ -1,6 +1,6 @@
 -- What is known of a line that was to add something to a network: it did what the grammar says, or memory ran out: refusal_of, Adds,
 -- Finishes, TakesIn, Takes, IsGiven.
-use Rattle.std.specs.Prelude.{◌≡◌, ℕ, List, map, Result, Ok, Err, Option, Some, None}
+use Rattle.std.specs.Prelude.{◌≡◌, Result, Ok, Err, Option, Some, None}
 use Rattle.stn_model.specs.declared.error.NetError.{NetError}
 use Rattle.stn_model.specs.declared.error.NetError.TheVariants as refused
 use Rattle.stn_model.specs.Net.{Net}

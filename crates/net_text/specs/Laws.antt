@@ -1,6 +1,6 @@
 -- The laws of printing and reading: IsReadBackIn, IsReadBack, PlainFormIsRead, NothingAfterIsRead, IsPrefixRead, PrefixIsRead, moved,
 -- SkippedLineMoves, DefaultLeanIsEarly, follows, BoundIsTwoArcs.
-use Rattle.std.specs.Prelude.{◌≡◌, ◌≢◌, ◌⊎◌, ℕ, neg_ℤ, ◌+◌, ◌≤◌, true, List, [], ◌∷◌, ◌++◌, codes, length, take, Option, Result, Ok, Err}
+use Rattle.std.specs.Prelude.{◌≡◌, ◌≢◌, ◌⊎◌, ℕ, neg_ℤ, ◌+◌, ◌≤◌, true, List, [], ◌∷◌, ◌++◌, codes, length, take, Result, Ok, Err}
 use Rattle.std.specs.List.{All}
 use Rattle.std.specs.Option.{option_map}
 use Rattle.stn_model.specs.Net.{Net}

@@ -8,3 +8,4 @@ pub mod Plain
 pub mod Causes
 pub mod Laws
 pub mod Adding
+pub mod Scans

@@ -1,5 +1,5 @@
 -- Lines: `parts` between line feeds, `line_of` a part, the `lines` of a text, whether a line `is_skipped`, and whether it `is_text`.
-use Rattle.std.specs.Prelude.{◌≡◌, ℕ, ◌+◌, ◌<◌, ◌≤◌, drop, Bool, true, false, List, [], ◌∷◌, ◌==◌, ◌&&◌, ◌||◌, nat_le, length, if◌then◌else◌, Option, Some, None}
+use Rattle.std.specs.Prelude.{◌≡◌, ℕ, ◌+◌, ◌<◌, ◌≤◌, drop, Bool, true, List, [], ◌∷◌, ◌==◌, ◌&&◌, ◌||◌, nat_le, length, if◌then◌else◌, Option, Some, None}
 use Rattle.std.specs.List.{list_all, slice_split}
 use Rattle.std.specs.Str.Lines.{strip_carriage_return}
 use Rattle.net_text.specs.Fields.{is_blank}

@@ -3,7 +3,7 @@
 -- given_number, given_lean, given_agent, given_point, counts, read_agent, read_point, read_act, read_bound, read_arc, building,
 -- line_in_network, read_horizon, read_opening, opening_line, network_line, named_version, read_header, header_line, headed, fields_do,
 -- line_does, missing, conclude, read_from, text_of, Reads.
-use Rattle.std.specs.Prelude.{ℕ, ℤ, pos, neg_ℤ, ◌+◌, ◌*◌, ◌≡◌, Bool, true, false, not, ◌==◌, ◌||◌, ◌&&◌, nat_le, int_lt, List, [], ◌∷◌, ◌++◌, length, Option, Some, None, Result, Ok, Err, codes, if◌then◌else◌}
+use Rattle.std.specs.Prelude.{ℕ, ℤ, pos, neg_ℤ, ◌+◌, ◌*◌, ◌≡◌, Bool, not, ◌==◌, ◌||◌, nat_le, int_lt, List, [], ◌∷◌, ◌++◌, length, Option, Some, None, Result, Ok, Err, codes, if◌then◌else◌}
 use Rattle.std.specs.Str.{bytes_eq}
 use Rattle.stn_model.specs.declared.ids.Constraint.{Constraint}
 use Rattle.stn_model.specs.declared.ids.Lean.{Lean}

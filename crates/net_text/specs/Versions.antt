@@ -1,6 +1,6 @@
 -- The versions of network texts: version_of, version_word, act_in, known_in, word_in, most_points_1, is_full_in, or_full,
 -- point_refusal_in, least_version.
-use Rattle.std.specs.Prelude.{ℕ, Bool, false, List, [], ◌∷◌, Option, Some, None, codes, length, nat_le, nat_eq, ◌&&◌, if◌then◌else◌}
+use Rattle.std.specs.Prelude.{ℕ, Bool, false, List, Option, Some, None, codes, length, nat_le, nat_eq, ◌&&◌, if◌then◌else◌}
 use Rattle.std.specs.Str.{bytes_eq}
 use Rattle.stn_model.specs.declared.error.NetError.{NetError}
 use Rattle.stn_model.specs.declared.error.NetError.TheVariants.{TooManyPoints}

@@ -1,14 +1,16 @@
 //! What the lines of a network text do, by the fields after their word.
-ghost use Rattle.std.specs.Prelude.{◌≡◌, ◌∷◌, true, map, length, IfOk};
+ghost use Rattle.std.specs.Prelude.{◌≡◌, ◌∷◌, [], true, map, length, IfOk, MatchOption};
 ghost use Rattle.net_text.specs.Networks.{read_horizon, read_agent, read_point, read_act, read_bound, read_arc, read_header, counts, header_line, headed, opening_line, network_line, line_in_network, fields_do, line_does, building};
 ghost use Rattle.net_text.specs.Adding.{Adds, Finishes, Takes, TakesIn};
 ghost use Rattle.net_text.specs.Versions.{word_in};
+ghost use Rattle.net_text.specs.Lines.{lines};
+ghost use Rattle.net_text.specs.Scans.{IsStep};
 
 use crate::cause::TextCause;
 use crate::entries::{add_act, add_agent, add_arc, add_bound, add_point};
 use crate::fields::first_fields;
 use crate::given::{given_agent, given_lean, given_number, given_point};
-use crate::lines::{is_skipped, is_text};
+use crate::lines::{Lines, is_skipped, is_text};
 use crate::numbers::number_of;
 use crate::refusal::Refusal;
 use crate::stage::{Next, Stage};
@@ -278,6 +280,25 @@ fn take_fields(alloc: Global, stage: &mut Stage, fields: &[&[u8]]) -> Result<Nex
         }
         Stage::Start => Ok(take_header(stage, first, fields)),
     }
+}
+
+/// Takes the next line of a text and does what it says, or gives None where no line is left. A line that is written plainly is cut into its
+/// fields as it is read; any other is first found, and then looked at.
+pub fn take_next<'a>(
+    alloc: Global,
+    left: &mut Lines<'a>,
+    stage: &mut Stage,
+) -> Option<Result<Next, OutOfMemory>>
+    ensures step { MatchOption result (lines left.old.rest.now ≡ []) (λ r. IfOk r (λ next. IsStep left.old.rest.now left.old.used left.old.count stage.old next stage.new left.new.rest.now left.new.used left.new.count)) }
+    ensures left { MatchOption result (left.new ≡ left.old) (λ _. Unit {0}) }
+    ensures stage { MatchOption result (stage.new ≡ stage.old) (λ _. Unit {0}) }
+{
+    let mut fields = [b"".as_slice(); MOST_FIELDS];
+    if let Some(count) = left.next_fields(&mut fields) {
+        return Some(take_fields(alloc, stage, &fields[..count]));
+    }
+    let line = left.next_line()?;
+    Some(take_line(alloc, stage, line))
 }
 
 /// Takes a line. After a refusal, and after the end of the text, nothing more may be taken.

@@ -14,6 +14,7 @@ pub mod print;
 pub mod read;
 mod refusal;
 pub mod rest;
+mod scan;
 pub mod stage;
 pub mod version;
 pub mod words;

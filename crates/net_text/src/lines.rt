@@ -1,7 +1,10 @@
 //! Lines of a text.
-ghost use Rattle.std.specs.Prelude.{◌≡◌, ◌+◌, ◌<◌, ◌≤◌, ◌^◌, [], ◌==◌, MatchOption, length, drop};
+ghost use Rattle.std.specs.Prelude.{◌≡◌, ◌+◌, ◌<◌, ◌≤◌, ◌^◌, [], ◌==◌, MatchOption, IfSome, map, length, take, drop};
 ghost use Rattle.std.specs.List.{position};
 ghost use Rattle.net_text.specs.Lines.{lines, line_of, is_text, is_skipped, IsFirstLine, IsTaken, IsWhole};
+ghost use Rattle.net_text.specs.Scans.{IsCut};
+
+use crate::scan::scan_line;
 
 /// A line: its bytes, and how many bytes it takes with what ends it.
 #[derive(Clone, Copy)]
@@ -50,6 +53,22 @@ impl<'a> Lines<'a> {
             count: self.count + 1,
         };
         Some(line.text)
+    }
+
+    /// Takes the next line where it is written plainly, as `scan_line` says, and puts its fields into the room. Gives None where it is not,
+    /// and then takes nothing.
+    pub fn next_fields(&mut self, room: &mut [&'a [u8]]) -> Option<usize>
+        ensures within { IfSome result (λ n. n ≤ length room.new) }
+        ensures size { length room.new ≡ length room.old }
+        ensures cut { MatchOption result (self.new ≡ self.old) (λ n. IsCut self.old.rest.now self.old.used self.old.count (map (λ f. f.now) (take n room.new)) self.new.rest.now self.new.used self.new.count) }
+    {
+        let scan = scan_line(self.rest, room)?;
+        *self = Lines {
+            rest: scan.rest,
+            used: self.used + (self.rest.len() - scan.rest.len()),
+            count: self.count + 1,
+        };
+        Some(scan.fields)
     }
 }
 

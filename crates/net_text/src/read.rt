@@ -4,7 +4,7 @@ ghost use Rattle.net_text.specs.Networks.{text_of, missing, Reads};
 ghost use Rattle.net_text.specs.Laws.{IsPrefixRead};
 
 use crate::cause::{TextCause, TextError};
-use crate::grammar::take_line;
+use crate::grammar::take_next;
 use crate::lines::Lines;
 use crate::stage::{Next, Stage};
 use std::alloc::Global;
@@ -34,8 +34,8 @@ pub fn read_net(alloc: Global, bytes: &[u8]) -> Result<NetRead, TextError>
 {
     let mut lines = Lines::new(bytes);
     let mut stage = Stage::Start;
-    while let Some(line) = lines.next_line() {
-        let Ok(next) = take_line(alloc, &mut stage, line) else {
+    while let Some(step) = take_next(alloc, &mut lines, &mut stage) {
+        let Ok(next) = step else {
             return Err(TextError::OutOfMemory);
         };
         match next {

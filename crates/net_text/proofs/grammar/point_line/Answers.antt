@@ -1,6 +1,5 @@
 -- A line that adds a point names its agent and the point.
-use Rattle.std.proofs.Common.{arith, sym, subst, Ok, Some}
-use Rattle.std.proofs.lemmas.Int.{ints}
+use Rattle.std.proofs.Common.{arith, subst}
 use Rattle.std.proofs.lemmas.Result.{err_from_is_err_and}
 use Rattle.net_text.specs.Adding.{Adds}
 use Rattle.net_text.proofs.Meanings.{point_miscounted, point_unknown, point_known}

@@ -2,7 +2,7 @@
 use Rattle.std.proofs.Common.{sym, ◌∙◌, arith}
 use Rattle.std.proofs.lemmas.Bool.Decides.{nat_tests}
 use Rattle.net_text.proofs.FirstFields.{nowhere}
-use Rattle.net_text.proofs.Parts.{fed_line, last_line, no_line}
+use Rattle.net_text.proofs.Parts.{fed_line, last_line}
 use Rattle.net_text.proofs.lines.first_line.Goals as goal
 
 pub returns : goal.returns

@@ -1,9 +1,8 @@
 -- The line names the owner of the act's start, and the act by the start's name.
-use Rattle.std.proofs.Common.{◌≡◌, ◌+◌, ◌-◌, ◌<◌, ◌≤◌, ◌++◌, [], ◌∷◌, ℕ, ℤ, to_z, of_z, w64, codes, List, length, take, get_or, ap, sym, ◌∙◌, arith}
+use Rattle.std.proofs.Common.{◌≡◌, ◌-◌, ◌++◌, ℕ, to_z, of_z, w64, List, get_or, ap, ◌∙◌, arith}
 use Rattle.std.proofs.lemmas.Int.{ints}
 use Rattle.stn_model.specs.declared.ids.Act.{Act}
-use Rattle.stn_model.specs.Net.{Place, no_place, no_act, agent_name_of, point_count}
-use Rattle.net_text.specs.Plain.{line, act_line}
+use Rattle.stn_model.specs.Net.{no_place, no_act}
 use Rattle.net_text.proofs.NetParts.{owner_is, point_name_is, act_line_is}
 use Rattle.net_text.proofs.print.add_act.Goals as goal
 

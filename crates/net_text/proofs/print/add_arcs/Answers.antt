@@ -1,4 +1,4 @@
-use Rattle.std.proofs.Common.{◌+◌, ◌-◌, ◌*◌, ◌++◌, take, ap, ◌∙◌, arith}
+use Rattle.std.proofs.Common.{◌+◌, ◌++◌, take, ap, ◌∙◌, arith}
 use Rattle.std.specs.List.{flat_map}
 use Rattle.stn_model.specs.Arcs.{no_arc}
 use Rattle.stn_model.specs.declared.ids.Constraint.{Constraint}

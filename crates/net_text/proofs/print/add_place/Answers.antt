@@ -1,5 +1,5 @@
 -- An act's line, or a point's.
-use Rattle.std.proofs.Common.{◌≡◌, sym, ◌∙◌, arith}
+use Rattle.std.proofs.Common.{sym, ◌∙◌, arith}
 use Rattle.std.proofs.lemmas.Bool.{false≢true}
 use Rattle.net_text.proofs.PlaceLines.{act_taken, point_taken, appended}
 use Rattle.net_text.proofs.print.add_place.Goals as goal

@@ -1,6 +1,6 @@
 -- Skipped lines are passed over.
 use Rattle.std.proofs.Common.{arith}
-use Rattle.net_text.proofs.Progress.{skips_on, stays_within}
+use Rattle.net_text.proofs.Progress.{stays_within}
 use Rattle.net_text.proofs.rest.rest_is_blank.Goals as goal
 
 pub overflow_add-result : goal.overflow_add-result
