@@ -6,7 +6,7 @@ mod boxes;
 mod choice;
 mod cycle;
 mod error;
-mod mark;
+pub mod mark;
 mod order;
 mod prove;
 mod repair;
