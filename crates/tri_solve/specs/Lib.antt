@@ -1,0 +1,11 @@
+pub mod Passes
+pub mod Chordal
+pub mod Tables
+pub mod Laws
+pub mod Edges
+pub mod Layouts
+pub mod Labels
+pub mod Turns
+pub mod Trees
+pub mod Views
+pub mod Example
