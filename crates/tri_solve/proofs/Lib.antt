@@ -22,3 +22,4 @@ pub mod TreeTimes
 pub mod NetworkBounds
 pub mod Rooted
 pub mod TreeOf
+pub mod OnePoint

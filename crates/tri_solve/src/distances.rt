@@ -37,7 +37,8 @@ impl Model for Distances {
 impl Distances {
     /// The point from which the distances are.
     pub fn source(&self) -> PointId
-        ensures { result.0 ≡ self.now.source }
+        ensures kept { result.0 ≡ self.now.source }
+        ensures valid { IsTree self.now }
     {
         self.source
     }

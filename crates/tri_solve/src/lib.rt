@@ -12,3 +12,6 @@ mod passes;
 pub use bounds::ChordalBounds;
 pub use distances::{Distances, attain, from_point};
 pub use edge::Edge;
+
+#[cfg(test)]
+mod tests;
