@@ -9,3 +9,5 @@ pub mod Weights
 pub mod Sound
 pub mod JoinFacts
 pub mod FinalWeights
+pub mod OriginFacts
+pub mod Unfolding

@@ -6,3 +6,5 @@ pub mod Picks
 pub mod Summaries
 pub mod Eliminated
 pub mod JoinedPlaces
+pub mod Origins
+pub mod Unfolds

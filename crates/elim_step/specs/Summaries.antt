@@ -1,6 +1,6 @@
 -- Which lists of entries are summaries: pairs strictly rise by from and to, ends differ, weights have magnitude at most 2^53. An entry by numbers of
--- points: entry_of.
-use Rattle.std.specs.Prelude.{List, [], ◌∷◌, Bool, true, ◌&&◌, ◌||◌, not, nat_lt, ◌==◌, nat_le, nat_abs, Option, Some, None}
+-- points: entry_of; the weight of a pair's entry: entry_in.
+use Rattle.std.specs.Prelude.{ℕ, ℤ, List, [], ◌∷◌, Bool, true, ◌&&◌, ◌||◌, not, nat_lt, ◌==◌, nat_le, nat_abs, Option, Some, None, if◌then◌else◌}
 use Rattle.stn_model.specs.Limits.{greatest_walk}
 use Rattle.stn_model.specs.Summaries.{Entry}
 use Rattle.elim_step.specs.declared.summary.SummaryEntry.{SummaryEntry}
@@ -30,3 +30,8 @@ may_all_follow last (e ∷ es) = may_follow last e && may_all_follow (Some e) es
 -- whether a list of entries is a summary
 abbrev pub is_summary : List SummaryEntry → Bool
 is_summary entries = may_all_follow None entries
+
+-- the weight of a pair's first entry, where it has one
+abbrev pub entry_in : List SummaryEntry → ℕ → ℕ → Option ℤ
+entry_in [] i j = None
+entry_in (e ∷ es) i j = if (e.from.0 == i) && (e.to.0 == j) then Some e.weight else entry_in es i j

@@ -3,6 +3,7 @@
 
 mod block;
 pub mod joins;
+pub mod leaves;
 mod lower;
 mod neighbours;
 pub mod pick;
@@ -13,6 +14,7 @@ pub mod steps;
 pub mod summary;
 
 pub use joins::Joins;
+pub use leaves::{Leaf, unfold};
 pub use pick::{Candidate, Picker};
 pub use revisit::revisit_point;
 pub use step::{Found, eliminate_point};

@@ -1,6 +1,6 @@
 //! Summaries: what an agent tells of its own arcs. Windows: what others decide of its points.
 ghost use Rattle.std.specs.Prelude.{◌≡◌, ◌↔◌, true, IsSome, IfSome, IfOk};
-ghost use Rattle.elim_step.specs.Summaries.{is_valid, is_less, may_follow, is_summary};
+ghost use Rattle.elim_step.specs.Summaries.{is_valid, is_less, may_follow, is_summary, entry_in};
 
 use std::alloc::Global;
 use std::marker::Model;
@@ -100,6 +100,18 @@ impl Summary {
         ensures valid { is_summary self.now ≡ true }
     {
         &self.entries
+    }
+
+    /// The weight of a pair's entry; None exactly where it has none.
+    pub fn weight(&self, from: PointId, to: PointId) -> Option<i128>
+        ensures { result ≡ entry_in self.now from.0 to.0 }
+    {
+        for entry in self.entries.as_slice() {
+            if entry.from.0 == from.0 && entry.to.0 == to.0 {
+                return Some(entry.weight);
+            }
+        }
+        None
     }
 
     /// An equal summary.
