@@ -4,7 +4,7 @@
 --   joined-neighbours                the pairs of a list, where it holds the remaining neighbours of a place
 --   joined-apart, joined-within  no place is joined with itself, nor one that is not below the size
 --   names_once-from_rising    a list that rises names no place twice
-use Rattle.std.proofs.Common.{suc, ◌≡◌, ◌≢◌, ℕ, ◌<◌, List, [], ◌∷◌, Bool, true, false, ◌&&◌, ◌||◌, not, ap, sym, ◌∙◌, refl, length, get_or, arith}
+use Rattle.std.proofs.Common.{suc, ◌≡◌, ◌≢◌, ℕ, ◌<◌, List, [], ◌∷◌, Bool, true, false, ◌&&◌, ◌||◌, not, ap, sym, ◌∙◌, refl, length, get_or, arith, inl, inr, ◌≤◌}
 use Rattle.std.specs.Prelude.{◌+◌, ◌*◌, ◌==◌, nat_lt, slice_index_or, if◌then◌else◌}
 use Rattle.std.specs.List.{AllPairs}
 use Rattle.std.proofs.lemmas.Bool.Decides.{nat_tests}
@@ -16,7 +16,11 @@ use Rattle.stn_walk.proofs.Eliminations.{before-whole}
 use Rattle.elim_step.specs.Eliminates.{remains}
 use Rattle.elim_step.specs.Eliminated.{point_at}
 use Rattle.elim_step.specs.Revisits.{names_once}
-use Rattle.elim_step.specs.JoinedPlaces.{joined_at}
+use Rattle.elim_step.specs.JoinedPlaces.{is_joined}
+use Rattle.elim_step.specs.PlaceLists.{no_places}
+use Rattle.elim_step.specs.declared.joins.Joins.{Joins}
+use Rattle.std.proofs.Math.ListN.{get_or-eq_default}
+use Rattle.std.proofs.lemmas.Bool.{cases_lt, false≢true}
 use Rattle.std.proofs.Math.Bool.{and-false}
 
 -- before any elimination
@@ -119,15 +123,22 @@ names_once-from_rising (x ∷ xs) rising =
     (λ t. not (apart t) && rest t)
 
 -- no place is joined with itself
-pub joined-apart : (size : ℕ) (bits : List Bool) (p : ℕ) → joined_at size bits p p ≡ false
-joined-apart size bits p = (let same : (p == p) ≡ true = grind (arith, nat_tests) in rw same refl)
+pub joined-apart : (j : Joins) (p : ℕ) → is_joined j p p ≡ false
+joined-apart j p =
+    elim (is_joined j p p) as (λ b. is_joined j p p ≡ b → b ≡ false) [
+      | true ↦ λ t. absurd ((j.kept.within p p t).1 refl)
+      | false ↦ λ t. refl
+    ] refl
 
 -- joined places are below the size
-pub joined-within : (size : ℕ) (bits : List Bool) (p q : ℕ) → joined_at size bits p q ≡ true → (p < size) × (q < size)
-joined-within size bits p q h = read (slice_index_or bits (p * size + q) false) h where
-  read : (b : Bool) → (not (p == q) && nat_lt p size && nat_lt q size && b) ≡ true → (p < size) × (q < size)
-  read true h = (grind (arith, nat_tests), grind (arith, nat_tests))
-  read false h = absurd (let e : false ≡ true = sym (and-false (not (p == q) && nat_lt p size && nat_lt q size)) ∙ h in cc)
+pub joined-within : (j : Joins) (p q : ℕ) → is_joined j p q ≡ true → (p < j.size) × (q < j.size)
+joined-within j p q h =
+    elim (cases_lt p j.size) [
+      | inl low ↦ (low, (j.kept.within p q h).0)
+      | inr past ↦ absurd (false≢true (sym (ap (λ l. is_in l.places q) (get_or-eq_default j.lists.items no_places (beyond past))) ∙ h))
+    ] where
+      beyond : j.size ≤ p → length j.lists.items ≤ p
+      beyond past = (let len = j.kept.len in omega arith)
 
 -- what joins the places of a list joins the remaining neighbours of k, where these are the list
 pub joined-neighbours : (remain : List Bool) (k : ℕ) (places : List ℕ) (f g : ℕ → ℕ → Bool)

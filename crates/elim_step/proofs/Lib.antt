@@ -4,6 +4,7 @@ pub mod Lowered
 pub mod Whole
 pub mod Revisits
 pub mod Finds
+pub mod PlaceLists
 pub mod JoinWrites
 pub mod Weights
 pub mod Sound

@@ -5,6 +5,7 @@ pub mod Revisits
 pub mod Picks
 pub mod Summaries
 pub mod Eliminated
+pub mod PlaceLists
 pub mod JoinedPlaces
 pub mod Origins
 pub mod Unfolds

@@ -7,6 +7,7 @@ pub mod leaves;
 mod lower;
 mod neighbours;
 pub mod pick;
+mod place_list;
 pub mod revisit;
 mod room;
 pub mod step;
