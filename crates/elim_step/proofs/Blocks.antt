@@ -1,6 +1,10 @@
 -- Blocks grow by one place, or by an interval without one.
 use Rattle.std.proofs.Common.{◌*◌, zero, suc, ◌≡◌, ℕ, ◌+◌, ◌<◌, ◌≤◌, List, [], ◌∷◌, ◌++◌, Bool, true, false, ◌&&◌, ◌||◌, Option, Some, None, ap, sym}
-use Rattle.std.proofs.Common.{◌∙◌, refl, length, arith, subst, inl, inr, length-append, add-one}
+use Rattle.std.proofs.Common.{◌∙◌, refl, length, arith, subst, inl, inr, length-append, add-one, get_or, append-nil}
+use Rattle.std.specs.List.{AllPairs}
+use Rattle.std.proofs.lemmas.Grind.{get_or_default_zero}
+use Rattle.std.proofs.lemmas.List.Quantifiers.{all_pairs_push}
+use Rattle.dist_rows.specs.Places.{AreRisingPlaces}
 use Rattle.std.proofs.Math.ListN.{get_or-eq_default}
 use Rattle.std.proofs.Math.Bool.{and-false}
 use Rattle.std.proofs.lemmas.Bool.{cases_lt}
@@ -11,7 +15,7 @@ use Rattle.dist_rows.specs.Cells.{are_neighbours}
 use Rattle.elim_step.specs.Eliminates.{count_below, is_neighbour, is_below, is_negative, remains}
 use Rattle.stn_walk.specs.Eliminations.{is_in}
 use Rattle.elim_step.specs.Blocks.{IsBlock}
-use Rattle.stn_walk.proofs.Members.{is_in-maybe}
+use Rattle.stn_walk.proofs.Members.{is_in-maybe, is_in-at}
 
 pub count_below-gap : (test : ℕ → Bool) (a n : ℕ) → a ≤ n → ((m : ℕ) → a ≤ m → m < n → test m ≡ false) → count_below test n ≡ count_below test a
 count_below-gap test a zero le gap = (let e : a ≡ 0 = omega arith in ap (count_below test) (sym e))
@@ -21,12 +25,33 @@ count_below-gap test a (suc n) le gap =
       | inr above ↦ rw (gap n above (omega arith)) (let e = count_below-gap test a n above (λ m l h. gap m l (omega arith)) in omega arith)
     ]
 
+-- the same in two words
+pub rising_pairs : (ns : List ℕ) → AreRisingPlaces ns → AllPairs (λ p q. p < q) ns
+rising_pairs ns rising i j d less l = rw (get_or_default_zero ns i d (omega (arith, less, l)), get_or_default_zero ns j d l) (rising i j less l)
+
 nothing : (a p : ℕ) (t : Bool) → false ≡ (nat_le a p && nat_lt p a && t)
 nothing a p true = grind (arith, nat_tests)
 nothing a p false = grind (arith, nat_tests)
 
 pub block-empty : (test : ℕ → Bool) (a : ℕ) → IsBlock test a a []
-block-empty test a = record { order = omega arith; each = λ p. nothing a p (test p); count = omega arith }
+block-empty test a = record { order = omega arith; rising = λ m n less l. absurd (omega (arith, l)); each = λ p. nothing a p (test p); count = omega arith }
+
+pub block-member : (test : ℕ → Bool) (a b : ℕ) (ns : List ℕ) → IsBlock test a b ns → (p : ℕ) → is_in ns p ≡ true → (p < b) × (test p ≡ true)
+block-member test a b ns is p here = read (test p) (sym (is.each p) ∙ here) where
+  read : (t : Bool) → (nat_le a p && nat_lt p b && t) ≡ true → (p < b) × (t ≡ true)
+  read true h = (grind (arith, nat_tests), refl)
+  read false h = absurd (let e : (nat_le a p && nat_lt p b && false) ≡ false = and-false (nat_le a p && nat_lt p b) in let f : false ≡ true = sym e ∙ h in cc)
+
+-- places that rise, behind which a greater one may stand
+rising_wanted : (ns : List ℕ) (n : ℕ) (w : Bool) → AreRisingPlaces ns → ((m : ℕ) → m < length ns → get_or ns m 0 < n)
+    → AreRisingPlaces (ns ++ (if w then n ∷ [] else []))
+rising_wanted ns n false rising low m k less l = (let same : AreRisingPlaces (ns ++ []) = rw (append-nil ns) rising in same m k less l)
+rising_wanted ns n true rising low m k less l = all_pairs_push (λ p q. p < q) ns n pairs last m k 0 less l where
+  pairs : AllPairs (λ p q. p < q) ns
+  pairs = rising_pairs ns rising
+
+  last : (i d : ℕ) → i < length ns → get_or ns i d < n
+  last i d lt = rw (get_or_default_zero ns i d lt) (low i lt)
 
 more : (p a b n : ℕ) (x w t : Bool) → x ≡ (nat_le a p && nat_lt p b && t) → a ≤ b → b ≤ n → (p ≡ n → t ≡ w) → (b ≤ p → p < n → t ≡ false)
     → (x || (w && (p == n))) ≡ (nat_le a p && nat_lt p (n + 1) && t)
@@ -41,6 +66,8 @@ pub block-more : (test : ℕ → Bool) (a b n : ℕ) (wanted : Bool) (ns : List 
     → IsBlock test a (n + 1) (ns ++ (if wanted then n ∷ [] else []))
 block-more test a b n wanted ns was le here gap = record {
   order = (let o = was.order in omega arith);
+  rising = rising_wanted ns n wanted was.rising
+      (λ m l. (let low = block-member test a b ns was (get_or ns m 0) (is_in-at ns m l) in let below = low.0 in omega (arith, below, le)));
   each = λ p. is_in-maybe ns n p wanted ∙ more p a b n (is_in ns p) wanted (test p) (was.each p) was.order le (λ e. ap test e ∙ here) (gap p);
   count = counted wanted here;
 } where
@@ -62,6 +89,7 @@ pub block-longer : (test : ℕ → Bool) (a b e : ℕ) (ns : List ℕ) → IsBlo
     → IsBlock test a e ns
 block-longer test a b e ns was le gap = record {
   order = (let o = was.order in omega arith);
+  rising = was.rising;
   each = λ p. was.each p ∙ longer p a b e (test p) was.order le (gap p);
   count = was.count ∙ sym (count_below-gap test b e le gap);
 }
@@ -69,12 +97,6 @@ block-longer test a b e ns was le gap = record {
 -- tests that agree have the same blocks
 pub block-same : (s t : ℕ → Bool) (a b : ℕ) (ns : List ℕ) → ((p : ℕ) → s p ≡ t p) → IsBlock s a b ns → IsBlock t a b ns
 block-same s t a b ns same = subst (λ (f : ℕ → Bool). IsBlock f a b ns) (λ i p. same p i)
-
-pub block-member : (test : ℕ → Bool) (a b : ℕ) (ns : List ℕ) → IsBlock test a b ns → (p : ℕ) → is_in ns p ≡ true → (p < b) × (test p ≡ true)
-block-member test a b ns is p here = read (test p) (sym (is.each p) ∙ here) where
-  read : (t : Bool) → (nat_le a p && nat_lt p b && t) ≡ true → (p < b) × (t ≡ true)
-  read true h = (grind (arith, nat_tests), refl)
-  read false h = absurd (let e : (nat_le a p && nat_lt p b && false) ≡ false = and-false (nat_le a p && nat_lt p b) in let f : false ≡ true = sym e ∙ h in cc)
 
 pub block-away : (test : ℕ → Bool) (a b : ℕ) (ns : List ℕ) → IsBlock test a b ns → (p : ℕ) → test p ≡ false → is_in ns p ≡ false
 block-away test a b ns is p away = is.each p ∙ ap (λ t. nat_le a p && nat_lt p b && t) away ∙ and-false (nat_le a p && nat_lt p b)

@@ -6,9 +6,6 @@
 use Rattle.std.proofs.Common.{zero, suc, ◌≡◌, ◌≢◌, ℕ, ◌+◌, ◌<◌, ◌≤◌, List, Bool, true, false, ◌&&◌, ◌||◌, not, ap, sym, ◌∙◌, refl, length, take, get_or, set, subst}
 use Rattle.std.proofs.Common.{arith, get_or-set_other, get_or-set_same, length-set, append-nil, [], ◌∷◌, ◌++◌, inl, inr}
 use Rattle.std.specs.Prelude.{◌==◌, if◌then◌else◌, slice_index_or, nat_le, nat_lt}
-use Rattle.std.specs.List.{AllPairs}
-use Rattle.std.proofs.lemmas.Grind.{get_or_default_zero}
-use Rattle.std.proofs.lemmas.List.Quantifiers.{all_pairs_push}
 use Rattle.std.proofs.lemmas.Bool.Decides.{nat_tests}
 use Rattle.std.proofs.lemmas.Bool.{cases_lt, false≢true}
 use Rattle.std.proofs.Math.ListN.{get_or-eq_default}
@@ -266,17 +263,3 @@ count_below-few test zero = omega arith
 count_below-few test (suc n) =
     let few = count_below-few test n in
     elim (test n) as (λ b. (if b then 1 else 0) + count_below test n ≤ suc n) [ true ↦ omega (arith, few) | false ↦ omega (arith, few) ]
-
--- all places of a list of those below a number are below it, by place in the list
-low : (test : ℕ → Bool) (n : ℕ) (ns : List ℕ) → IsBlock test 0 n ns → (k d : ℕ) → k < length ns → get_or ns k d < n
-low test n ns block k d within = rw (get_or_default_zero ns k d within) ((block-member test 0 n ns block (get_or ns k 0) (is_in-at ns k within)).0)
-
--- one place more, where it is wanted
-pub rising-more : (test : ℕ → Bool) (n : ℕ) (wanted : Bool) (ns : List ℕ) → IsBlock test 0 n ns → AllPairs (λ p q. p < q) ns
-    → AllPairs (λ p q. p < q) (ns ++ (if wanted then n ∷ [] else []))
-rising-more test n true ns block rising = all_pairs_push (λ p q. p < q) ns n rising (low test n ns block)
-rising-more test n false ns block rising = rw (append-nil ns) rising
-
-pub block-next : (test : ℕ → Bool) (n : ℕ) (wanted : Bool) (ns : List ℕ) → IsBlock test 0 n ns → test n ≡ wanted
-    → IsBlock test 0 (n + 1) (ns ++ (if wanted then n ∷ [] else []))
-block-next test n wanted ns block is = block-more test 0 n n wanted ns block (omega arith) is (λ m le lt. absurd (omega arith))

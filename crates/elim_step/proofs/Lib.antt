@@ -1,7 +1,11 @@
+pub mod Parts
+pub mod Roomings
 pub mod Blocks
 pub mod Regions
 pub mod Lowered
 pub mod Whole
+pub mod Offerings
+pub mod Amongs
 pub mod Revisits
 pub mod Finds
 pub mod PlaceLists

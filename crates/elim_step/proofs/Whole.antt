@@ -10,10 +10,10 @@ sum-none : (k : ℕ) (a : Option Cell) → sum_through k a None ≡ None
 sum-none k None = refl
 sum-none k (Some a) = refl
 
-through-first : (k : ℕ) (f : ℕ → ℕ → Option Cell) (p q : ℕ) → f p k ≡ None → through k f p q ≡ f p q
+pub through-first : (k : ℕ) (f : ℕ → ℕ → Option Cell) (p q : ℕ) → f p k ≡ None → through k f p q ≡ f p q
 through-first k f p q h = rw h refl
 
-through-second : (k : ℕ) (f : ℕ → ℕ → Option Cell) (p q : ℕ) → f k q ≡ None → through k f p q ≡ f p q
+pub through-second : (k : ℕ) (f : ℕ → ℕ → Option Cell) (p q : ℕ) → f k q ≡ None → through k f p q ≡ f p q
 through-second k f p q h = rw (h, sum-none k (f p k)) refl
 
 either : (b : Bool) (x y : Option Cell) → x ≡ y → (if b then x else y) ≡ y

@@ -1,6 +1,8 @@
 pub mod Eliminates
 pub mod Blocks
 pub mod Regions
+pub mod Offered
+pub mod Among
 pub mod Revisits
 pub mod Picks
 pub mod Summaries

@@ -1,5 +1,7 @@
 //! Blocks of neighbours.
-ghost use Rattle.std.specs.Prelude.{◌≡◌, ◌+◌, ◌<◌, ◌≤◌, ◌^◌, [], ◌∷◌, ◌++◌, if◌then◌else◌};
+ghost use Rattle.std.specs.Prelude.{◌≡◌, ◌+◌, ◌<◌, ◌≤◌, ◌^◌, [], ◌∷◌, ◌++◌, length, take, drop, if◌then◌else◌};
+
+use std::cmp::min;
 
 /// The most places of a block.
 pub const ROOM: usize = 64;
@@ -15,6 +17,17 @@ pub struct Block {
     pub count: usize,
     places: [u32; ROOM],
     ghost few: { count ≤ 64 },
+}
+
+/// The places of a list from a number on, as many as a block has room for.
+pub fn part_from(list: &[u32], from: usize) -> &[u32]
+    requires { from ≤ length list.now }
+    ensures part { result.now ≡ take (length result.now) (drop from list.now) }
+    ensures few { length result.now ≤ 64 }
+    ensures within { from + length result.now ≤ length list.now }
+    ensures some { from < length list.now → 0 < length result.now }
+{
+    &list[from..from + min(ROOM, list.len() - from)]
 }
 
 impl Block {
@@ -37,7 +50,8 @@ impl Block {
 
     /// The places of the block.
     pub fn as_slice(&self) -> &[u32]
-        ensures { result.now ≡ items_of self.now }
+        ensures value { result.now ≡ items_of self.now }
+        ensures few { length result.now ≤ 64 }
     {
         &self.places[..self.count]
     }

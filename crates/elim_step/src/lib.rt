@@ -1,11 +1,13 @@
 //! One elimination and one revisit over rows of cells, the order in which points are taken, and summaries.
 #![tactic(auto)]
 
+pub mod among;
 mod block;
 pub mod joins;
 pub mod leaves;
 mod lower;
 mod neighbours;
+mod offers;
 pub mod pick;
 mod place_list;
 pub mod revisit;
@@ -14,11 +16,12 @@ pub mod step;
 pub mod steps;
 pub mod summary;
 
+pub use among::eliminate_among;
 pub use joins::Joins;
 pub use leaves::{Leaf, unfold};
 pub use pick::{Candidate, Picker};
 pub use revisit::revisit_point;
-pub use step::{Found, eliminate_point};
+pub use step::{Found, eliminate_point, negative_with};
 pub use steps::Steps;
 pub use summary::{Summary, SummaryEntry, Window};
 

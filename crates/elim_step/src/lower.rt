@@ -6,9 +6,12 @@ ghost use Rattle.elim_step.specs.Eliminates.{is_neighbour, count_below, sum_thro
 ghost use Rattle.stn_walk.specs.Eliminations.{is_in};
 ghost use Rattle.elim_step.specs.Blocks.{items_of, IsBlock};
 ghost use Rattle.elim_step.specs.Regions.{region_after};
+ghost use Rattle.elim_step.specs.Offered.{offers_of, AreOffers};
+ghost use Rattle.dist_rows.specs.Places.{AreRisingPlaces};
 
 use crate::block::Block;
 use crate::neighbours::block_from;
+use crate::offers::Offers;
 use crate::steps::Steps;
 use dist_rows::{Cell, Rows, Via};
 use std::sync::ledger::Ledger;
@@ -29,49 +32,34 @@ pub fn sum_of(k: u32, first: Option<Cell>, second: Option<Cell>) -> Option<Cell>
     }
 }
 
-// Lowers one pair through k, unless its places are one. That is one step.
-fn lower_pair<R: Rows, L: Ledger>(rows: &mut R, k: u32, i: u32, j: u32, steps: &mut Steps<L>)
-    requires within { (k < R.places rows.old) × (i < R.places rows.old) × (j < R.places rows.old) }
-    requires room { i ≢ j → R.has_room rows.old i j ≡ true }
-    requires first { IfSome (R.at rows.old i k) (λ c. IsLight 99 c.weight) }
-    requires second { IfSome (R.at rows.old k j) (λ c. IsLight 99 c.weight) }
-    ensures cells { (p q : ℕ) → R.at rows.new p q ≡ region_after k (λ a b. (a == i) && (b == j)) (R.at rows.old) p q }
-    ensures room { (p q : ℕ) → R.has_room rows.new p q ≡ R.has_room rows.old p q }
-    ensures places { R.places rows.new ≡ R.places rows.old }
-    ensures roomy { R.is_roomy rows.new ≡ R.is_roomy rows.old }
-    ensures steps { steps.new ≡ steps.old + 1 }
-{
-    steps.tick();
-    if i == j {
-        return;
-    }
-    if let Some(cell) = sum_of(k, rows.get(i, k), rows.get(k, j)) {
-        rows.lower(i, j, cell);
-    }
-}
-
-// Lowers the pairs of i with each of these places through k.
-fn lower_row<R: Rows, L: Ledger>(rows: &mut R, k: u32, i: u32, others: &[u32], steps: &mut Steps<L>)
+// Lowers the pairs of i with each of these places through k, by the offers of the row of k to them. Each pair is one step.
+fn lower_row<R: Rows, L: Ledger>(
+    rows: &mut R,
+    k: u32,
+    i: u32,
+    others: &[u32],
+    offers: &Offers,
+    steps: &mut Steps<L>,
+)
     requires within { (k < R.places rows.old) × (i < R.places rows.old) }
-    requires all_within { (j : ℕ) → is_in others.now j ≡ true → j < R.places rows.old }
-    requires apart { i ≢ k }
-    requires away { is_in others.now k ≡ false }
+    requires offers { AreOffers (R.at rows.old k) others.now (offers_of offers.now) }
     requires room { (j : ℕ) → is_in others.now j ≡ true → i ≢ j → R.has_room rows.old i j ≡ true }
     requires first { IfSome (R.at rows.old i k) (λ c. IsLight 99 c.weight) }
-    requires second { (j : ℕ) → IfSome (R.at rows.old k j) (λ c. IsLight 99 c.weight) }
     ensures cells { (p q : ℕ) → R.at rows.new p q ≡ region_after k (λ a b. (a == i) && is_in others.now b) (R.at rows.old) p q }
     ensures room { (p q : ℕ) → R.has_room rows.new p q ≡ R.has_room rows.old p q }
     ensures places { R.places rows.new ≡ R.places rows.old }
     ensures roomy { R.is_roomy rows.new ≡ R.is_roomy rows.old }
     ensures steps { steps.new ≡ steps.old + length others.now }
 {
-    for &j in others {
-        lower_pair(rows, k, i, j, steps);
+    steps.count(others.len() as u64);
+    if let Some(cell) = rows.get(i, k) {
+        rows.lower_row(i, offers.as_slice(), cell.weight, k);
     }
 }
 
-// Lowers the pairs of each of some places with each of others through k.
-fn lower_pairs<R: Rows, L: Ledger>(
+/// Lowers the pairs of each of some places with each of others through k: the row of k is read once, and that of each place
+/// is walked over once. The others rise, and are no more than a block has.
+pub fn lower_pairs<R: Rows, L: Ledger>(
     rows: &mut R,
     k: u32,
     places: &[u32],
@@ -81,6 +69,8 @@ fn lower_pairs<R: Rows, L: Ledger>(
     requires within { k < R.places rows.old }
     requires all_within { (i : ℕ) → is_in places.now i ≡ true → i < R.places rows.old }
     requires others_within { (j : ℕ) → is_in others.now j ≡ true → j < R.places rows.old }
+    requires others_rising { AreRisingPlaces others.now }
+    requires few { length others.now ≤ 64 }
     requires away { is_in places.now k ≡ false }
     requires others_away { is_in others.now k ≡ false }
     requires room { (i j : ℕ) → is_in places.now i ≡ true → is_in others.now j ≡ true → i ≢ j → R.has_room rows.old i j ≡ true }
@@ -92,8 +82,9 @@ fn lower_pairs<R: Rows, L: Ledger>(
     ensures roomy { R.is_roomy rows.new ≡ R.is_roomy rows.old }
     ensures steps { steps.new ≡ steps.old + length places.now * length others.now }
 {
+    let offers = Offers::of(rows, k, others);
     for &i in places {
-        lower_row(rows, k, i, others, steps);
+        lower_row(rows, k, i, others, &offers, steps);
     }
 }
 

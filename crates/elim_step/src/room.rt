@@ -3,49 +3,18 @@ ghost use Rattle.std.specs.Prelude.{◌≡◌, ◌≢◌, ℕ, ◌<◌, ◌≤�
 ghost use Rattle.elim_step.specs.Eliminates.{is_neighbour};
 ghost use Rattle.stn_walk.specs.Eliminations.{is_in};
 ghost use Rattle.elim_step.specs.Blocks.{items_of, IsBlock};
+ghost use Rattle.dist_rows.specs.Places.{AreRisingPlaces};
 
 use crate::block::Block;
 use crate::neighbours::block_from;
 use dist_rows::Rows;
 use stn_model::OutOfMemory;
 
-// Makes room for one pair, unless its places are one.
-fn make_room_pair<R: Rows>(rows: &mut R, i: u32, j: u32) -> Result<(), OutOfMemory>
-    requires within { (i < R.places rows.old) × (j < R.places rows.old) }
-    ensures cells { (p q : ℕ) → R.at rows.new p q ≡ R.at rows.old p q }
-    ensures places { R.places rows.new ≡ R.places rows.old }
-    ensures roomy { R.is_roomy rows.new ≡ R.is_roomy rows.old }
-    ensures room { OnOk result (i ≢ j → R.has_room rows.new i j ≡ true) }
-    ensures other_room { (p q : ℕ) → R.has_room rows.old p q ≡ true → R.has_room rows.new p q ≡ true }
-    ensures err { OnErr result (R.is_roomy rows.old ≡ false) }
-{
-    if i == j {
-        return Ok(());
-    }
-    rows.make_room(i, j)
-}
-
-// Makes room for the pairs of i with each of these places.
-fn make_room_row<R: Rows>(rows: &mut R, i: u32, others: &[u32]) -> Result<(), OutOfMemory>
-    requires within { i < R.places rows.old }
-    requires all_within { (j : ℕ) → is_in others.now j ≡ true → j < R.places rows.old }
-    ensures cells { (p q : ℕ) → R.at rows.new p q ≡ R.at rows.old p q }
-    ensures places { R.places rows.new ≡ R.places rows.old }
-    ensures roomy { R.is_roomy rows.new ≡ R.is_roomy rows.old }
-    ensures room { OnOk result ((j : ℕ) → is_in others.now j ≡ true → i ≢ j → R.has_room rows.new i j ≡ true) }
-    ensures other_room { (p q : ℕ) → R.has_room rows.old p q ≡ true → R.has_room rows.new p q ≡ true }
-    ensures err { OnErr result (R.is_roomy rows.old ≡ false) }
-{
-    for &j in others {
-        make_room_pair(rows, i, j)?;
-    }
-    Ok(())
-}
-
 // Makes room for the pairs of each of some places with each of others.
 fn make_room_pairs<R: Rows>(rows: &mut R, places: &[u32], others: &[u32]) -> Result<(), OutOfMemory>
     requires within { (i : ℕ) → is_in places.now i ≡ true → i < R.places rows.old }
     requires all_within { (j : ℕ) → is_in others.now j ≡ true → j < R.places rows.old }
+    requires rising { AreRisingPlaces others.now }
     ensures cells { (p q : ℕ) → R.at rows.new p q ≡ R.at rows.old p q }
     ensures places { R.places rows.new ≡ R.places rows.old }
     ensures roomy { R.is_roomy rows.new ≡ R.is_roomy rows.old }
@@ -54,7 +23,7 @@ fn make_room_pairs<R: Rows>(rows: &mut R, places: &[u32], others: &[u32]) -> Res
     ensures err { OnErr result (R.is_roomy rows.old ≡ false) }
 {
     for &i in places {
-        make_room_row(rows, i, others)?;
+        rows.make_room_row(i, others)?;
     }
     Ok(())
 }

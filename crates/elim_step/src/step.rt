@@ -21,8 +21,8 @@ pub enum Found {
     Negative(u32),
 }
 
-// Whether two cells are there and sum below 0.
-fn sums_below(first: Option<Cell>, second: Option<Cell>) -> bool
+/// Whether two cells are there and sum below 0.
+pub(crate) fn sums_below(first: Option<Cell>, second: Option<Cell>) -> bool
     requires first { IfSome first (λ c. IsLight 99 c.weight) }
     requires second { IfSome second (λ c. IsLight 99 c.weight) }
     ensures { result ≡ is_negative first second }
@@ -75,6 +75,38 @@ fn first_negative<R: Rows, L: Ledger>(
     let mut from = 0;
     while let Some(n) = next_from(rows, k, from) {
         if looks_below(rows, k, n, remain[n as usize], steps) {
+            return Some(n);
+        }
+        from = n + 1;
+    }
+    None
+}
+
+// Whether a place remains and its two cells with k sum below 0.
+fn is_below<R: Rows>(rows: &R, k: u32, n: u32, remains: bool) -> bool
+    requires within { (k < R.places rows.now) × (n < R.places rows.now) }
+    requires light { AllLight 99 (R.at rows.now) }
+    ensures { result ≡ (remains && is_negative (R.at rows.now k n) (R.at rows.now n k)) }
+{
+    remains && sums_below(rows.get(k, n), rows.get(n, k))
+}
+
+/// The least remaining place whose two cells with k sum below 0, so that an elimination of k would answer `Negative` with
+/// it. None where there is no such place. Writes nothing and takes no memory. `remain` has one truth value for each place,
+/// and all weights have magnitude at most 2^99.
+pub fn negative_with<R: Rows>(rows: &R, k: u32, remain: &[bool]) -> Option<u32>
+    requires within { k < R.places rows.now }
+    requires len { length remain.now ≡ R.places rows.now }
+    requires light { AllLight 99 (R.at rows.now) }
+    ensures some { IfSome result (λ i. is_below remain.now (R.at rows.now) k i ≡ true) }
+    ensures least { IfSome result (λ i. (m : ℕ) → m < i → is_below remain.now (R.at rows.now) k m ≡ false) }
+    ensures none { IfNone result ((m : ℕ) → is_below remain.now (R.at rows.now) k m ≡ false) }
+{
+    // With the size comes that places are below 2^32.
+    let _size = rows.size();
+    let mut from = 0;
+    while let Some(n) = next_from(rows, k, from) {
+        if is_below(rows, k, n, remain[n as usize]) {
             return Some(n);
         }
         from = n + 1;

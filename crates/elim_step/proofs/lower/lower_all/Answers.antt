@@ -13,7 +13,7 @@ lower_rows-requires-clause-away g c =
     let k = c.args.k in
     let none : f k k ≡ None = none-from (f k k) (λ here. (g.met.R.Rows.room_is_within fs k k (g.met.R.Rows.cells_have_room fs k k here)).2 refl) in
     let block = c.walk.block in
-    rw c.as_slice.ensures (block-without c.args.remain.now f f k 0 none block.from block.end (items_of block) c.walk.invariant.block)
+    rw c.as_slice.ensures.value (block-without c.args.remain.now f f k 0 none block.from block.end (items_of block) c.walk.invariant.block)
 
 pub lower_rows-requires-clause-first_block : goal.lower_rows-requires-clause-first_block
 lower_rows-requires-clause-first_block g c =
@@ -37,7 +37,7 @@ lower_rows-requires-clause-room g c =
     let block = c.walk.block in
     let same = rows-same remain f (g.R.Rows.at c.walk.rows) k block.from none c.walk.invariant.cells in
     λ i j at_i at_j apart.
-    let member = block-member (is_neighbour remain f k) block.from block.end (items_of block) c.walk.invariant.block i (rw c.as_slice.ensures at at_i) in
+    let member = block-member (is_neighbour remain f k) block.from block.end (items_of block) c.walk.invariant.block i (rw c.as_slice.ensures.value at at_i) in
     c.walk.invariant.room i j ∙ c.requires.room i j member.1 (sym (same j) ∙ at_j) apart
 
 pub lower_rows-requires-clause-first : goal.lower_rows-requires-clause-first
@@ -70,7 +70,7 @@ returns-then-block-size-clause-cells g c =
     let was = c.walk.invariant in
     rows-whole remain f h k block.end (omega arith)
     (rows-more remain f (g.R.Rows.at c.walk.rows) k block.from none was.cells h block.end (items_of block) was.block
-    (rw c.as_slice.ensures at c.lower_rows.ensures.cells))
+    (rw c.as_slice.ensures.value at c.lower_rows.ensures.cells))
 
 pub returns-then-block-size-clause-room : goal.returns-then-block-size-clause-room
 returns-then-block-size-clause-room g c = λ p q. c.lower_rows.ensures.room p q ∙ c.walk.invariant.room p q
@@ -86,7 +86,7 @@ returns-then-block-size-clause-steps g c =
     let block = c.walk.block in
     let places = g.R.Rows.places fs in
     let test = is_neighbour remain f k in
-    let taken : length c.as_slice.result.now ≡ length (items_of block) = ap (length {A = ℕ}) c.as_slice.ensures in
+    let taken : length c.as_slice.result.now ≡ length (items_of block) = ap (length {A = ℕ}) c.as_slice.ensures.value in
     let counts : count_below (is_neighbour remain (g.R.Rows.at c.walk.rows) k) (g.R.Rows.places c.walk.rows) ≡ count_below test places =
     ap (count_below (is_neighbour remain (g.R.Rows.at c.walk.rows) k)) was.places
     ∙ rows-count remain f (g.R.Rows.at c.walk.rows) k block.from none was.cells places in
@@ -110,9 +110,9 @@ walk-preserved g c =
     let now = c.lower_rows.ensures in
     let block = c.walk.block in
     let next = c.block_from-block.result in
-    let cells = rows-more remain f w k block.from none was.cells h block.end (items_of block) was.block (rw c.as_slice.ensures at now.cells) in
+    let cells = rows-more remain f w k block.from none was.cells h block.end (items_of block) was.block (rw c.as_slice.ensures.value at now.cells) in
     let count = was.block.count in
-    let taken : length c.as_slice.result.now ≡ length (items_of block) = ap (length {A = ℕ}) c.as_slice.ensures in
+    let taken : length c.as_slice.result.now ≡ length (items_of block) = ap (length {A = ℕ}) c.as_slice.ensures.value in
     let counts : count_below (is_neighbour remain w k) (g.R.Rows.places c.walk.rows) ≡ count_below (is_neighbour remain f k) (g.R.Rows.places fs) =
     ap (count_below (is_neighbour remain w k)) was.places ∙ rows-count remain f w k block.from none was.cells (g.R.Rows.places fs) in
     let end : next.from ≡ block.end = c.block_from-block.ensures.from in

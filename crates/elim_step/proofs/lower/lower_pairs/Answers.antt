@@ -3,17 +3,27 @@ use Rattle.std.specs.Prelude.{◌==◌}
 use Rattle.stn_walk.specs.Eliminations.{is_in}
 use Rattle.stn_walk.proofs.Members.{is_in-next, is_in-at, is_in-take, is_in-apart}
 use Rattle.std.proofs.Math.Bool.{and-false}
-use Rattle.elim_step.proofs.Regions.{region-join, and-or-left}
+use Rattle.elim_step.proofs.Offerings.{offers_same}
+use Rattle.elim_step.proofs.Regions.{region-join, and-or-left, kept-second}
 use Rattle.elim_step.proofs.lower.lower_pairs.Goals as goal
+
+pub of-offers-requires-clause-others : goal.of-offers-requires-clause-others
+of-offers-requires-clause-others g c = λ m l. c.requires.others_within _ (is_in-at c.args.others.now m l)
 
 pub lower_row-requires-clause-within : goal.lower_row-requires-clause-within
 lower_row-requires-clause-within g c =
     rw c.loop-i.invariant.places (c.requires.within, c.requires.all_within _ (is_in-at c.args.places.now c.loop-i.i-index (search rules)))
 
-pub lower_row-requires-clause-apart : goal.lower_row-requires-clause-apart
-lower_row-requires-clause-apart g c =
+pub lower_row-requires-clause-offers : goal.lower_row-requires-clause-offers
+lower_row-requires-clause-offers g c =
     let ns = c.args.places.now in
-    is_in-apart ns (get_or ns c.loop-i.i-index 0) c.args.k (is_in-at ns c.loop-i.i-index (search rules)) c.requires.away
+    let js = c.args.others.now in
+    let n = c.loop-i.i-index in
+    let k = c.args.k in
+    offers_same _ _ js _
+    (kept-second k (λ a b. is_in (take n ns) a && is_in js b) (g.R.Rows.at c.args.rows.now) (g.R.Rows.at c.loop-i.rows) c.loop-i.invariant.cells
+    (λ q. ap (λ z. z && is_in js q) (is_in-take ns n k c.requires.away)))
+    c.of-offers.ensures
 
 pub lower_row-requires-clause-room : goal.lower_row-requires-clause-room
 lower_row-requires-clause-room g c =

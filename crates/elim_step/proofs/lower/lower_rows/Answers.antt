@@ -11,7 +11,10 @@ lower_pairs-requires-clause-others_away g c =
     let k = c.args.k in
     let none : f k k ≡ None = none-from (f k k) (λ here. (g.met.R.Rows.room_is_within fs k k (g.met.R.Rows.cells_have_room fs k k here)).2 refl) in
     let block = c.walk.others in
-    rw c.as_slice.ensures (block-without c.args.remain.now f f k 0 none block.from block.end (items_of block) c.walk.invariant.block)
+    rw c.as_slice.ensures.value (block-without c.args.remain.now f f k 0 none block.from block.end (items_of block) c.walk.invariant.block)
+
+pub lower_pairs-requires-clause-others_rising : goal.lower_pairs-requires-clause-others_rising
+lower_pairs-requires-clause-others_rising g c = rw c.as_slice.ensures.value c.walk.invariant.block.rising
 
 pub lower_pairs-requires-clause-first : goal.lower_pairs-requires-clause-first
 lower_pairs-requires-clause-first g c =
@@ -36,13 +39,13 @@ returns-then-others-size-clause-cells g c =
     let was = c.walk.invariant in
     columns-whole remain f h k block.end (omega arith) places
     (columns-more remain f (g.R.Rows.at c.walk.rows) k block.from none places c.requires.away was.cells h block.end (items_of block) was.block
-    (rw c.as_slice.ensures at c.lower_pairs.ensures.cells))
+    (rw c.as_slice.ensures.value at c.lower_pairs.ensures.cells))
 
 pub returns-then-others-size-clause-steps : goal.returns-then-others-size-clause-steps
 returns-then-others-size-clause-steps g c =
     let was = c.walk.invariant in
     let count = was.block.count in
-    let taken : length c.as_slice.result.now ≡ length (items_of c.walk.others) = ap (length {A = ℕ}) c.as_slice.ensures in
+    let taken : length c.as_slice.result.now ≡ length (items_of c.walk.others) = ap (length {A = ℕ}) c.as_slice.ensures.value in
     let whole : c.walk.others.end ≡ g.R.Rows.places c.args.rows.now = omega arith in
     rw (c.lower_pairs.ensures.steps, was.steps, taken, ← whole, ← count) (grind arith)
 
@@ -61,9 +64,9 @@ walk-preserved g c =
     let places = c.args.places.now in
     let cells =
     columns-more remain f (g.R.Rows.at c.walk.rows) k block.from none places c.requires.away was.cells h block.end (items_of block) was.block
-    (rw c.as_slice.ensures at now.cells) in
+    (rw c.as_slice.ensures.value at now.cells) in
     let count = was.block.count in
-    let taken : length c.as_slice.result.now ≡ length (items_of block) = ap (length {A = ℕ}) c.as_slice.ensures in
+    let taken : length c.as_slice.result.now ≡ length (items_of block) = ap (length {A = ℕ}) c.as_slice.ensures.value in
     let end : next.from ≡ block.end = c.block_from-others.ensures.from in
     record {
       cells = rw end cells;

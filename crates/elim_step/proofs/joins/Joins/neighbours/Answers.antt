@@ -3,15 +3,15 @@ use Rattle.std.specs.Prelude.{if◌then◌else◌}
 use Rattle.stn_walk.proofs.Members.{is_in-at}
 use Rattle.elim_step.specs.Eliminates.{remains}
 use Rattle.elim_step.specs.JoinedPlaces.{is_joined}
-use Rattle.elim_step.proofs.Blocks.{block-member}
-use Rattle.elim_step.proofs.JoinWrites.{filtered-none, filtered-up, filtered-more, filtered-all, rising-more, list_off, list_on, block_whole, block_count, both_right}
+use Rattle.elim_step.proofs.Blocks.{block-member, rising_pairs}
+use Rattle.elim_step.proofs.JoinWrites.{filtered-none, filtered-more, filtered-all, list_off, list_on, block_whole, block_count, both_right}
 use Rattle.elim_step.proofs.joins.Joins.neighbours.Goals as goal
 
 pub loop-p-init : goal.loop-p-init
 loop-p-init c =
     let remain = c.args.remain.now in
     let off = list_off remain _ _ (sym c.joined-joined.ensures.value) in
-    rw c.clear.ensures.items (record { filtered = filtered-none _ _ off; rising = λ i j d less l. absurd (omega (arith, l)) })
+    rw c.clear.ensures.items (record { filtered = filtered-none _ _ off })
 
 pub bounds-remain-p : goal.bounds-remain-p
 bounds-remain-p c =
@@ -32,7 +32,6 @@ loop-p-preserved c =
     let longer : c.push_where.new.places.items ≡ old ++ (if remains remain p then p ∷ [] else []) = c.in_ok-push_where.ensures in
     record {
       filtered = rw longer (filtered-more test xs n old (remains remain p) off c.joined-joined.ensures.rising (search rules) was.filtered on);
-      rising = rw longer (rising-more test p (remains remain p) old (filtered-up test xs n old c.joined-joined.ensures.rising (search rules) was.filtered) was.rising);
     }
 
 pub returns-clause-each : goal.returns-clause-each
@@ -44,6 +43,21 @@ returns-clause-each c =
     (filtered-all test c.joined-joined.result.now c.loop-p.p-index c.loop-p.list.items s.size c.loop-p.invariant.filtered c.loop-p-test.false
     c.joined-joined.ensures.within c.loop-p.auto.p-index-end)
     (λ p here. (s.kept.within c.args.k p (both_right (remains remain p) (is_joined s c.args.k p) here)).0)
+
+pub returns-clause-places : goal.returns-clause-places
+returns-clause-places c =
+    let s = c.args.self.now in
+    let test : ℕ → Bool = λ p. remains c.args.remain.now p && is_joined s c.args.k p in
+    (filtered-all test c.joined-joined.result.now c.loop-p.p-index c.loop-p.list.items s.size c.loop-p.invariant.filtered c.loop-p-test.false
+    c.joined-joined.ensures.within c.loop-p.auto.p-index-end).rising
+
+pub returns-clause-rising : goal.returns-clause-rising
+returns-clause-rising c =
+    let s = c.args.self.now in
+    let test : ℕ → Bool = λ p. remains c.args.remain.now p && is_joined s c.args.k p in
+    rising_pairs c.loop-p.list.items
+    (filtered-all test c.joined-joined.result.now c.loop-p.p-index c.loop-p.list.items s.size c.loop-p.invariant.filtered c.loop-p-test.false
+    c.joined-joined.ensures.within c.loop-p.auto.p-index-end).rising
 
 pub returns-clause-within : goal.returns-clause-within
 returns-clause-within c =

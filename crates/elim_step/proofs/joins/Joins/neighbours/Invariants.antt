@@ -1,5 +1,4 @@
-use Rattle.std.proofs.Common.{◌<◌, ◌&&◌}
-use Rattle.std.specs.List.{AllPairs}
+use Rattle.std.proofs.Common.{◌&&◌}
 use Rattle.elim_step.specs.Eliminates.{remains}
 use Rattle.elim_step.specs.JoinedPlaces.{is_joined}
 use Rattle.elim_step.proofs.JoinWrites.{IsFiltered}
@@ -8,5 +7,4 @@ use Rattle.elim_step.proofs.joins.Joins.neighbours.Given as goal
 abbrev pub invariant-loop-p : goal.invariant-loop-p
 invariant-loop-p l = record {
   filtered : IsFiltered (λ p. remains l.remain p && is_joined l.self l.k p) l.joined l.p-index l.list.items;
-  rising : AllPairs (λ p q. p < q) l.list.items;
 }
