@@ -1,6 +1,6 @@
 -- Lists of joined places: one list among those of all places, and the places of a list that remain.
 --   by_list, kept_set, pairs_set     another list for a place
---   list_read, listed_low            what a list of a place has
+--   list_read                        the list of a place that is read
 --   row-joined, rooms_left           one list more whose place is joined with all of a list
 --   IsFiltered, filtered-none, filtered-more     the places so far that pass a test
 use Rattle.std.proofs.Common.{zero, suc, ◌≡◌, ◌≢◌, ℕ, ◌+◌, ◌<◌, ◌≤◌, List, Bool, true, false, ◌&&◌, ◌||◌, not, ap, sym, ◌∙◌, refl, length, take, get_or, set, subst}

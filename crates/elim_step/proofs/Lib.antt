@@ -7,7 +7,10 @@ pub mod Whole
 pub mod Offerings
 pub mod Amongs
 pub mod Revisits
+pub mod RevisitRows
 pub mod Finds
+pub mod Rankings
+pub mod Firsts
 pub mod PlaceLists
 pub mod JoinWrites
 pub mod Weights

@@ -8,13 +8,11 @@ use Rattle.std.proofs.lemmas.List.{get_or_append_left, get_or_push, length_push,
 use Rattle.std.proofs.Math.Bool.{or-true}
 use Rattle.dist_rows.specs.declared.cell.Cell.{Cell}
 use Rattle.dist_rows.specs.declared.cell.Offer.{Offer}
-use Rattle.dist_rows.specs.Cells.{IsLight, lesser, offer_at, no_offer, offer_to, after_offer, row_lowered, AreRising}
+use Rattle.dist_rows.specs.Cells.{IsLight, offer_at, no_offer, offer_to, AreRising}
 use Rattle.dist_rows.specs.Places.{AreRisingPlaces}
 use Rattle.stn_walk.specs.Eliminations.{is_in}
 use Rattle.stn_walk.proofs.Members.{is_in-next}
-use Rattle.elim_step.specs.Eliminates.{sum_through, lesser_of}
 use Rattle.elim_step.specs.Offered.{offer_for, AreOffers}
-use Rattle.elim_step.specs.Regions.{through, region_after}
 
 -- no offers to no places
 pub offers-none : (f : ℕ → Option Cell) → AreOffers f [] []
@@ -150,43 +148,3 @@ offers_same f g xs os same are = record {
   listed = are.listed;
   light = are.light;
 }
-
--- a row without a cell to k is not lowered
-pub row_without : (k i : ℕ) (xs : List ℕ) (f : ℕ → ℕ → Option Cell) → f i k ≡ None → (p q : ℕ)
-    → f p q ≡ region_after k (λ a b. (a == i) && is_in xs b) f p q
-row_without k i xs f none p q =
-    elim (p == i) as (λ t. (p == i) ≡ t → f p q ≡ (if (t && is_in xs q) && not (p == q) then through k f p q else f p q)) [
-      | true ↦ λ h.
-          let e : p ≡ i = grind (arith, nat_tests) in
-          let same : through k f p q ≡ f p q = rw (e, none) refl in
-          either (is_in xs q && not (p == q)) (through k f p q) (f p q) same
-      | false ↦ λ h. refl
-    ] refl where
-      either : (b : Bool) (x y : Option Cell) → x ≡ y → y ≡ (if b then x else y)
-      either true x y h = sym h
-      either false x y h = refl
-
--- offers of the row of k lower the row of i through k
-pub row_with : (k i : ℕ) (by : Cell) (xs : List ℕ) (os : List Offer) (f : ℕ → ℕ → Option Cell) → f i k ≡ Some by → AreOffers (f k) xs os → (p q : ℕ)
-    → row_lowered i k by.weight os f p q ≡ region_after k (λ a b. (a == i) && is_in xs b) f p q
-row_with k i by xs os f here are p q =
-    elim (p == i) as (λ t. (p == i) ≡ t → (if t && not (q == i) then after_offer k by.weight (offer_to os q) (f p q) else f p q)
-    ≡ (if (t && is_in xs q) && not (p == q) then through k f p q else f p q)) [
-      | true ↦ λ h.
-          let e : p ≡ i = grind (arith, nat_tests) in
-          let same : (q == i) ≡ (p == q) = grind (arith, nat_tests) in
-          let row : f p k ≡ Some by = rw e here in
-          rw (same, are.each q, row) (chosen (not (p == q)) (is_in xs q) (f k q) (f p q))
-      | false ↦ λ h. refl
-    ] refl where
-      offered : (c : Option Cell) (old : Option Cell) → after_offer k by.weight (offer_for q c) old ≡ lesser_of old (sum_through k (Some by) c)
-      offered None old = refl
-      offered (Some c) old = refl
-
-      chosen : (d b : Bool) (c old : Option Cell)
-          → (if d then after_offer k by.weight (if b then offer_for q c else None) old else old)
-          ≡ (if b && d then lesser_of old (sum_through k (Some by) c) else old)
-      chosen true true c old = offered c old
-      chosen true false c old = refl
-      chosen false true c old = refl
-      chosen false false c old = refl

@@ -14,12 +14,12 @@ use Rattle.elim_step.specs.Revisits.{reach_of, out_sum, in_sum, least_over, sum_
 use Rattle.elim_step.specs.Revisits.{IsLeastSum, Revisits}
 use Rattle.stn_walk.proofs.Members.{is_in-first, is_in-behind, is_in-push, is_in-at, is_in-apart}
 
-least_over-push : (sum : ℕ → Option Cell) (old : Option Cell) (xs : List ℕ) (m : ℕ)
+pub least_over-push : (sum : ℕ → Option Cell) (old : Option Cell) (xs : List ℕ) (m : ℕ)
     → least_over sum old (xs ++ m ∷ []) ≡ lesser_of (least_over sum old xs) (sum m)
 least_over-push sum old [] m = refl
 least_over-push sum old (x ∷ xs) m = least_over-push sum (lesser_of old (sum x)) xs m
 
-least_over-same : (s t : ℕ → Option Cell) (old : Option Cell) (xs : List ℕ) → ((m : ℕ) → is_in xs m ≡ true → s m ≡ t m)
+pub least_over-same : (s t : ℕ → Option Cell) (old : Option Cell) (xs : List ℕ) → ((m : ℕ) → is_in xs m ≡ true → s m ≡ t m)
     → least_over s old xs ≡ least_over t old xs
 least_over-same s t old [] same = refl
 least_over-same s t old (x ∷ xs) same =
@@ -63,10 +63,10 @@ reach-same f g p q same =
     let nought : Option Cell = Some (record { weight = pos 0; via = Given 0 }) in
     elim (p == q) as (λ b. (if b then nought else f p q) ≡ (if b then nought else g p q)) [ true ↦ refl | false ↦ same ]
 
-out-same : (forward f g : ℕ → ℕ → Option Cell) (k j m : ℕ) → f m j ≡ g m j → out_sum forward f k j m ≡ out_sum forward g k j m
+pub out-same : (forward f g : ℕ → ℕ → Option Cell) (k j m : ℕ) → f m j ≡ g m j → out_sum forward f k j m ≡ out_sum forward g k j m
 out-same forward f g k j m same = ap (λ o. sum_through m (forward k m) o) (reach-same f g m j same)
 
-in-same : (forward f g : ℕ → ℕ → Option Cell) (k j m : ℕ) → f j m ≡ g j m → in_sum forward f k j m ≡ in_sum forward g k j m
+pub in-same : (forward f g : ℕ → ℕ → Option Cell) (k j m : ℕ) → f j m ≡ g j m → in_sum forward f k j m ≡ in_sum forward g k j m
 in-same forward f g k j m same = ap (λ o. sum_through m o (forward m k)) (reach-same f g j m same)
 
 -- one other place more
@@ -112,7 +112,7 @@ same_right true q j P x =
       | false ↦ λ t. refl
     ] refl
 
-same_left : (b : Bool) (p j : ℕ) (P : ℕ → Option Cell) (x : Option Cell) → (if (p == j) && b then P j else x) ≡ (if (p == j) && b then P p else x)
+pub same_left : (b : Bool) (p j : ℕ) (P : ℕ → Option Cell) (x : Option Cell) → (if (p == j) && b then P j else x) ≡ (if (p == j) && b then P p else x)
 same_left b p j P x =
     elim (p == j) as (λ a. (p == j) ≡ a → (if a && b then P j else x) ≡ (if a && b then P p else x)) [
       | true ↦ λ t. let e : j ≡ p = grind (arith, nat_tests) in ap (λ y. if b then P y else x) e

@@ -4,7 +4,10 @@ pub mod Regions
 pub mod Offered
 pub mod Among
 pub mod Revisits
+pub mod RevisitRows
 pub mod Picks
+pub mod Rankings
+pub mod Ranked
 pub mod Summaries
 pub mod Eliminated
 pub mod PlaceLists

@@ -9,8 +9,11 @@ use Rattle.elim_step.specs.Eliminates.{lesser_of, sum_through}
 use Rattle.stn_walk.specs.Eliminations.{is_in}
 
 -- the cell between two places, which is 0 from a place to itself
+abbrev pub reach_to : ℕ → ℕ → Option Cell → Option Cell
+reach_to m j cell = if m == j then Some (record { weight = pos 0; via = Given 0 }) else cell
+
 abbrev pub reach_of : (ℕ → ℕ → Option Cell) → ℕ → ℕ → Option Cell
-reach_of f m j = if m == j then Some (record { weight = pos 0; via = Given 0 }) else f m j
+reach_of f m j = reach_to m j (f m j)
 
 -- from k by m to j, and from j by m to k
 abbrev pub out_sum : (ℕ → ℕ → Option Cell) → (ℕ → ℕ → Option Cell) → ℕ → ℕ → ℕ → Option Cell

@@ -1,7 +1,7 @@
 //! Which pairs of places are joined, without direction.
 ghost use Rattle.std.specs.Prelude.{◌≡◌, ◌≢◌, ℕ, ◌+◌, ◌<◌, ◌≤◌, false, true, ◌&&◌, ◌||◌, not, ◌==◌, IfOk, OnOk, OnErr, length, [], ◌∷◌, ◌++◌, if◌then◌else◌};
 ghost use Rattle.std.specs.List.{AllPairs};
-ghost use Rattle.dist_rows.specs.Places.{AreRisingPlaces};
+ghost use Rattle.dist_rows.specs.Places.{AreWithin, AreRisingPlaces};
 ghost use Rattle.elim_step.specs.Eliminates.{remains, count_below};
 ghost use Rattle.elim_step.specs.PlaceLists.{places_of, room_of, place_at, AreJoined};
 ghost use Rattle.stn_walk.specs.Eliminations.{is_in};
@@ -187,6 +187,8 @@ impl Joins {
         ensures rising { OnOk result (AllPairs (λ p q. p < q) list.new.items) }
         ensures places { OnOk result (AreRisingPlaces list.new.items) }
         ensures within { OnOk result ((p : ℕ) → is_in list.new.items p ≡ true → p < self.now.size) }
+        ensures all_within { OnOk result (AreWithin self.now.size list.new.items) }
+        ensures away { OnOk result (is_in list.new.items k ≡ false) }
         ensures count { OnOk result (length list.new.items ≡ count_below (λ p. remains remain.now p && is_joined self.now k p) self.now.size) }
     {
         let joined = self.joined(k);

@@ -12,13 +12,13 @@ pub struct Candidate {
 /// The key of a candidate, with its number.
 #[derive(Clone, Copy)]
 pub struct Rank {
-    key: u64,
-    number: u32,
+    pub(crate) key: u64,
+    pub(crate) number: u32,
 }
 
 impl Rank {
-    // Whether this rank comes first: by key, then by number.
-    fn is_before(&self, other: &Rank) -> bool
+    /// Whether this rank comes first: by key, then by number.
+    pub(crate) fn is_before(&self, other: &Rank) -> bool
         ensures { result ≡ comes_before self.now.key self.now.number other.now.key other.now.number }
     {
         self.key < other.key || self.key == other.key && self.number < other.number
@@ -72,13 +72,20 @@ impl Picker {
         Picker { key }
     }
 
+    /// The key of a degree and a number, for a caller that keeps candidates by their keys.
+    pub fn key(&self, degree: u32, number: u32) -> u64
+        ensures { post self.now.key degree number result }
+    {
+        (self.key)(degree, number)
+    }
+
     // The rank of a candidate.
     fn rank(&self, candidate: Candidate) -> Rank
         ensures key { post self.now.key candidate.degree candidate.number result.key }
         ensures number { result.number ≡ candidate.number }
     {
         Rank {
-            key: (self.key)(candidate.degree, candidate.number),
+            key: self.key(candidate.degree, candidate.number),
             number: candidate.number,
         }
     }

@@ -27,8 +27,8 @@ fn reach<R: Rows>(rows: &R, m: u32, j: u32) -> Option<Cell>
     rows.get(m, j)
 }
 
-// Lowers a cell to a sum, where it is there.
-fn lower_to<R: Rows>(rows: &mut R, i: u32, j: u32, sum: Option<Cell>)
+/// Lowers a cell to a sum, where it is there.
+pub(crate) fn lower_to<R: Rows>(rows: &mut R, i: u32, j: u32, sum: Option<Cell>)
     requires apart { i ≢ j }
     requires room { R.has_room rows.old i j ≡ true }
     requires light { IfSome sum (λ c. IsLight 100 c.weight) }

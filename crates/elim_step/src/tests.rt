@@ -1,11 +1,13 @@
 //! Small networks worked by hand: eliminations, a revisit, picks and summaries.
-ghost use Rattle.std.specs.Prelude.{◌≡◌, ◌≢◌, ℕ, ◌<◌, true, false, None, IsTrue, length};
+ghost use Rattle.std.specs.Prelude.{◌≡◌, ◌≢◌, ℕ, ◌<◌, true, false, None, OnOk, IsTrue, length};
 ghost use Rattle.dist_rows.specs.Cells.{AllLight, IsLight};
+ghost use Rattle.dist_rows.specs.Places.{AreRisingPlaces, AreWithin};
 ghost use Rattle.stn_walk.specs.Eliminations.{is_in};
 ghost use Rattle.elim_step.specs.Revisits.{names_once};
 
 use crate::{
-    Candidate, Found, Picker, Steps, Summary, SummaryEntry, eliminate_point, revisit_point,
+    Candidate, Found, Joins, Picker, Ranking, Steps, Summary, SummaryEntry, eliminate_among,
+    eliminate_point, negative_with, revisit_point, revisit_rows,
 };
 use dist_rows::{Cell, MatrixRows, Rows, Via};
 use std::alloc::Global;
@@ -93,7 +95,33 @@ fn through(place: u32, weight: i128) -> Cell {
     }
 }
 
-// Eliminates a place of rows of four places with these cells.
+// Joins a place of four with the others, and lists those that remain.
+fn list_others(alloc: Global, k: u32, remain: &[bool], list: &mut Vec<u32>) -> Result<(), Fail>
+    requires within { k < 4 }
+    requires len { length remain.now ≡ 4 }
+    ensures within { OnOk result (AreWithin 4 list.new.items) }
+    ensures listed { OnOk result ((m : ℕ) → is_in list.new.items m ≡ true → m < 4) }
+    ensures rising { OnOk result (AreRisingPlaces list.new.items) }
+    ensures away { OnOk result (is_in list.new.items k ≡ false) }
+{
+    let mut joins = Joins::new(alloc, 4)?;
+    joins.join(k, 0)?;
+    joins.join(k, 1)?;
+    joins.join(k, 2)?;
+    joins.join(k, 3)?;
+    joins.neighbours(k, remain, list)?;
+    Ok(())
+}
+
+// The place that fails.
+fn failing(found: Found) -> Option<u32> {
+    match found {
+        Found::Clear => None,
+        Found::Negative(place) => Some(place),
+    }
+}
+
+// Eliminates a place of rows of four places with these cells, among all that remain and among those of a list.
 fn eliminates<L: Ledger>(
     rt: &impl Abort,
     alloc: Global,
@@ -111,8 +139,18 @@ fn eliminates<L: Ledger>(
     fill(rt, &mut rows, cells)?;
     assert!(rt; remain.len() == 4 && k < 4);
     let mut steps = Steps::<L>::new(blank);
+    assert_eq!(rt; negative_with(&rows, k, remain), failing(found));
     assert_eq!(rt; eliminate_point(&mut rows, k, remain, &mut steps)?, found);
     holds(rt, &rows, after);
+    let mut listed = MatrixRows::new(alloc, 4)?;
+    fill(rt, &mut listed, cells)?;
+    let mut others = Vec::new(alloc);
+    list_others(alloc, k, remain, &mut others)?;
+    assert_eq!(rt;
+        eliminate_among(&mut listed, k, others.as_slice(), &mut steps)?,
+        found
+    );
+    holds(rt, &listed, after);
     Ok(())
 }
 
@@ -284,6 +322,35 @@ fn is_apart<R: Rows>(rows: &R, k: u32, later: &[u32]) -> bool
     true
 }
 
+// Weights from one of four places to another before a revisit of place 1, and the cells after it.
+const FORWARD: [(u32, u32, i128); 4] = [(1, 0, 15), (0, 1, 35), (1, 2, 40), (2, 1, -30)];
+
+const FINALS: [(u32, u32, i128); 6] = [
+    (0, 2, 60),
+    (2, 0, -30),
+    (0, 3, 100),
+    (3, 0, 1),
+    (2, 3, 100),
+    (3, 2, 1),
+];
+
+fn revisited() -> [(u32, u32, Cell); 12] {
+    [
+        (0, 2, given(60)),
+        (2, 0, given(-30)),
+        (0, 3, given(100)),
+        (3, 0, given(1)),
+        (2, 3, given(100)),
+        (3, 2, given(1)),
+        (1, 0, through(2, 10)),
+        (0, 1, through(2, 30)),
+        (1, 2, through(2, 40)),
+        (2, 1, through(2, -30)),
+        (1, 3, through(0, 115)),
+        (3, 1, through(2, -29)),
+    ]
+}
+
 // Revisits place 1 of four.
 fn revisits<L: Ledger>(
     rt: &impl Abort,
@@ -299,42 +366,72 @@ fn revisits<L: Ledger>(
     requires within { (m : ℕ) → is_in later.now m ≡ true → m < 4 }
 {
     let mut forward = MatrixRows::new(alloc, 4)?;
-    let cells = [(1, 0, 15), (0, 1, 35), (1, 2, 40), (2, 1, -30)];
-    fill(rt, &mut forward, cells.as_slice())?;
+    fill(rt, &mut forward, FORWARD.as_slice())?;
     let mut finals = MatrixRows::new(alloc, 4)?;
-    let cells = [
-        (0, 2, 60),
-        (2, 0, -30),
-        (0, 3, 100),
-        (3, 0, 1),
-        (2, 3, 100),
-        (3, 2, 1),
-    ];
-    fill(rt, &mut finals, cells.as_slice())?;
+    fill(rt, &mut finals, FINALS.as_slice())?;
     assert!(rt; is_apart(&finals, 1, later));
     let mut steps = Steps::<L>::new(blank);
     revisit_point(&forward, &mut finals, 1, later, &mut steps);
-    let after = [
-        (0, 2, given(60)),
-        (2, 0, given(-30)),
-        (0, 3, given(100)),
-        (3, 0, given(1)),
-        (2, 3, given(100)),
-        (3, 2, given(1)),
-        (1, 0, through(2, 10)),
-        (0, 1, through(2, 30)),
-        (1, 2, through(2, 40)),
-        (2, 1, through(2, -30)),
-        (1, 3, through(0, 115)),
-        (3, 1, through(2, -29)),
-    ];
-    holds(rt, &finals, after.as_slice());
+    holds(rt, &finals, revisited().as_slice());
     Ok(())
 }
 
 #[test]
 fn revisit_takes_least_sums(rt: HostRuntime) -> Result<(), Fail> {
     revisits::<Brand>(&rt, rt.alloc(), Blank::new(1), [0, 2, 3].as_slice())
+}
+
+// The same by rows.
+fn revisits_by_rows<L: Ledger>(
+    rt: &impl Abort,
+    alloc: Global,
+    blank: Blank,
+    later: &[u32],
+) -> Result<(), Fail>
+    requires name { blank.name ≡ L.name }
+    requires parts { (blank.parts ≡ L.parts) × (blank.parts ≡ 1) }
+    requires some { 0 < length later.now }
+    requires others { is_in later.now 1 ≡ false }
+    requires rising { AreRisingPlaces later.now }
+    requires within { (m : ℕ) → is_in later.now m ≡ true → m < 4 }
+{
+    let mut forward = MatrixRows::new(alloc, 4)?;
+    fill(rt, &mut forward, FORWARD.as_slice())?;
+    let mut finals = MatrixRows::new(alloc, 4)?;
+    fill(rt, &mut finals, FINALS.as_slice())?;
+    assert!(rt; is_apart(&finals, 1, later));
+    let mut steps = Steps::<L>::new(blank);
+    revisit_rows(&forward, &mut finals, 1, later, &mut steps);
+    holds(rt, &finals, revisited().as_slice());
+    Ok(())
+}
+
+#[test]
+fn revisit_by_rows_takes_least_sums(rt: HostRuntime) -> Result<(), Fail> {
+    let mut later = Vec::new(rt.alloc());
+    list_others(rt.alloc(), 1, [true; 4].as_slice(), &mut later)?;
+    assert!(rt; !later.is_empty());
+    revisits_by_rows::<Brand>(&rt, rt.alloc(), Blank::new(1), later.as_slice())
+}
+
+#[test]
+fn ranking_keeps_the_least_key(rt: HostRuntime) -> Result<(), Fail> {
+    let mut ranking = Ranking::new(rt.alloc(), 5)?;
+    assert_eq!(rt; ranking.first(), None);
+    for (place, key, first) in [
+        (3, Some(7), Some(3)),
+        (1, Some(7), Some(1)),
+        (4, Some(2), Some(4)),
+        (4, Some(9), Some(1)),
+        (1, None, Some(3)),
+        (3, None, Some(4)),
+        (4, None, None),
+    ] {
+        assert!(rt; place < ranking.size());
+        ranking.set(place, key);
+        assert_eq!(rt; ranking.first(), first, "after {place}");
+    }
+    Ok(())
 }
 
 #[test]

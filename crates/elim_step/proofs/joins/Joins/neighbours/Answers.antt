@@ -1,8 +1,10 @@
-use Rattle.std.proofs.Common.{ℕ, Bool, ◌&&◌, sym, ◌++◌, [], ◌∷◌, ◌≡◌, ◌∙◌, ◌<◌, true, false, arith, rules, length, get_or}
+use Rattle.std.proofs.Common.{ℕ, Bool, ◌&&◌, sym, ◌++◌, [], ◌∷◌, ◌≡◌, ◌∙◌, ap, ◌<◌, true, false, arith, rules, length, get_or}
 use Rattle.std.specs.Prelude.{if◌then◌else◌}
 use Rattle.stn_walk.proofs.Members.{is_in-at}
 use Rattle.elim_step.specs.Eliminates.{remains}
 use Rattle.elim_step.specs.JoinedPlaces.{is_joined}
+use Rattle.std.proofs.Math.Bool.{and-false}
+use Rattle.elim_step.proofs.JoinFacts.{joined-apart}
 use Rattle.elim_step.proofs.Blocks.{block-member, rising_pairs}
 use Rattle.elim_step.proofs.JoinWrites.{filtered-none, filtered-more, filtered-all, list_off, list_on, block_whole, block_count, both_right}
 use Rattle.elim_step.proofs.joins.Joins.neighbours.Goals as goal
@@ -74,3 +76,12 @@ returns-clause-count c =
     let block = filtered-all test c.joined-joined.result.now c.loop-p.p-index c.loop-p.list.items s.size c.loop-p.invariant.filtered c.loop-p-test.false
     c.joined-joined.ensures.within c.loop-p.auto.p-index-end in
     block_count test s.size c.loop-p.list.items block
+
+pub returns-clause-all_within : goal.returns-clause-all_within
+returns-clause-all_within c = λ m l. returns-clause-within c _ (is_in-at c.loop-p.list.items m l)
+
+pub returns-clause-away : goal.returns-clause-away
+returns-clause-away c =
+    let s = c.args.self.now in
+    let k = c.args.k in
+    returns-clause-each c k ∙ ap (λ b. remains c.args.remain.now k && b) (joined-apart s k) ∙ and-false (remains c.args.remain.now k)
