@@ -1,12 +1,12 @@
 -- An elimination among the places of a list is one among the places that remain, where the list has all remaining neighbours of k.
-use Rattle.std.proofs.Common.{◌≡◌, ℕ, ◌<◌, List, Bool, true, false, ◌&&◌, ◌||◌, not, Option, Some, None, ap, sym, ◌∙◌, refl}
+use Rattle.std.proofs.Common.{◌≡◌, ℕ, List, Bool, true, false, ◌&&◌, ◌||◌, not, Option, Some, None, ap, sym, ◌∙◌, refl}
 use Rattle.std.specs.Prelude.{◌==◌, if◌then◌else◌, is_some}
 use Rattle.std.proofs.Math.Bool.{and-false}
 use Rattle.std.proofs.lemmas.Bool.{false≢true}
 use Rattle.dist_rows.specs.declared.cell.Cell.{Cell}
 use Rattle.dist_rows.specs.Cells.{are_neighbours}
 use Rattle.stn_walk.specs.Eliminations.{is_in}
-use Rattle.elim_step.specs.Eliminates.{sum_through, lesser_of, remains, is_neighbour, is_negative, is_below, eliminated, StepGives}
+use Rattle.elim_step.specs.Eliminates.{sum_through, lesser_of, remains, is_neighbour, is_negative, is_below, StepGives}
 use Rattle.elim_step.specs.Among.{eliminated_among, StepAmong, HasNeighbours}
 use Rattle.elim_step.specs.Regions.{region_after}
 use Rattle.elim_step.specs.declared.step.Found.{Found}

@@ -1,12 +1,12 @@
 -- The place that comes first among places with keys is that of a candidate that may be picked: picks_none, picks_first.
-use Rattle.std.proofs.Common.{zero, suc, ◌≡◌, ℕ, ◌+◌, ◌<◌, List, [], ◌∷◌, ◌++◌, Bool, true, false, ◌&&◌, ◌||◌, Option, Some, None, ap, sym, ◌∙◌, refl, length}
+use Rattle.std.proofs.Common.{zero, suc, ◌≡◌, ℕ, ◌+◌, ◌<◌, List, [], ◌∷◌, ◌++◌, false, Option, Some, None, ap, sym, ◌∙◌, refl, length}
 use Rattle.std.proofs.Common.{arith, subst, inl, inr, add-one}
-use Rattle.std.specs.Prelude.{◌==◌, nat_lt, slice_index_or}
+use Rattle.std.specs.Prelude.{slice_index_or}
 use Rattle.std.proofs.lemmas.Bool.{cases_lt}
 use Rattle.std.proofs.lemmas.Bool.Decides.{nat_tests}
 use Rattle.std.proofs.lemmas.List.{get_or_append_left, get_or_push, length_push}
 use Rattle.elim_step.specs.declared.pick.Candidate.{Candidate}
-use Rattle.elim_step.specs.Picks.{comes_before, candidate_at, AreKeys, IsLeast, Picks}
+use Rattle.elim_step.specs.Picks.{comes_before, candidate_at, Picks}
 use Rattle.elim_step.specs.Rankings.{IsFirst}
 
 -- The candidates are the places with keys: the q-th one is at the place `places q`, where its key answers its degree and number, and places rise

@@ -5,7 +5,7 @@
 --   joined-apart, joined-within  no place is joined with itself, nor one that is not below the size
 --   names_once-from_rising    a list that rises names no place twice
 use Rattle.std.proofs.Common.{suc, ◌≡◌, ◌≢◌, ℕ, ◌<◌, List, [], ◌∷◌, Bool, true, false, ◌&&◌, ◌||◌, not, ap, sym, ◌∙◌, refl, length, get_or, arith, inl, inr, ◌≤◌}
-use Rattle.std.specs.Prelude.{◌+◌, ◌*◌, ◌==◌, nat_lt, slice_index_or, if◌then◌else◌}
+use Rattle.std.specs.Prelude.{◌==◌, if◌then◌else◌}
 use Rattle.std.specs.List.{AllPairs}
 use Rattle.std.proofs.lemmas.Bool.Decides.{nat_tests}
 use Rattle.stn_model.specs.declared.ids.Constraint.{Constraint}

@@ -3,8 +3,8 @@
 --   list_read                        the list of a place that is read
 --   row-joined, rooms_left           one list more whose place is joined with all of a list
 --   IsFiltered, filtered-none, filtered-more     the places so far that pass a test
-use Rattle.std.proofs.Common.{zero, suc, ◌≡◌, ◌≢◌, ℕ, ◌+◌, ◌<◌, ◌≤◌, List, Bool, true, false, ◌&&◌, ◌||◌, not, ap, sym, ◌∙◌, refl, length, take, get_or, set, subst}
-use Rattle.std.proofs.Common.{arith, get_or-set_other, get_or-set_same, length-set, append-nil, [], ◌∷◌, ◌++◌, inl, inr}
+use Rattle.std.proofs.Common.{zero, suc, ◌≡◌, ◌≢◌, ℕ, ◌+◌, ◌<◌, ◌≤◌, List, Bool, true, false, ◌&&◌, ◌||◌, not, ap, sym, ◌∙◌, refl, length, get_or, set, subst}
+use Rattle.std.proofs.Common.{arith, get_or-set_other, get_or-set_same, length-set, [], ◌∷◌, ◌++◌, inl, inr}
 use Rattle.std.specs.Prelude.{◌==◌, if◌then◌else◌, slice_index_or, nat_le, nat_lt}
 use Rattle.std.proofs.lemmas.Bool.Decides.{nat_tests}
 use Rattle.std.proofs.lemmas.Bool.{cases_lt, false≢true}
@@ -16,7 +16,7 @@ use Rattle.elim_step.specs.PlaceLists.{PlaceListView, no_places, place_at, place
 use Rattle.stn_walk.specs.Eliminations.{is_in}
 use Rattle.elim_step.specs.Blocks.{IsBlock}
 use Rattle.stn_walk.proofs.Members.{is_in-at}
-use Rattle.elim_step.proofs.Blocks.{block-more, block-member, block-longer, block-empty, count_below-gap, count-step}
+use Rattle.elim_step.proofs.Blocks.{block-more, block-longer, block-empty, count_below-gap, count-step}
 use Rattle.elim_step.proofs.PlaceLists.{not_listed, below_up, above_up}
 use Rattle.std.proofs.Math.Bool.{and-false}
 

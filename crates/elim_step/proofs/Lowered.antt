@@ -5,7 +5,7 @@
 --   rows-same, rows-count           so k has the same remaining neighbours, and as many
 --   rows-more, columns-more         a block more
 --   rows-whole, columns-whole       where the last block ends all neighbours are done
-use Rattle.std.proofs.Common.{◌≡◌, ℕ, ◌<◌, List, Bool, false, true, ◌&&◌, ◌||◌, ap, ◌∙◌, refl, arith, length, Option, None, ◌≤◌}
+use Rattle.std.proofs.Common.{◌≡◌, ℕ, List, Bool, false, ◌&&◌, ◌||◌, ap, ◌∙◌, arith, length, Option, None, ◌≤◌}
 use Rattle.std.specs.Prelude.{nat_lt}
 use Rattle.std.proofs.Math.Bool.{and-false}
 use Rattle.dist_rows.specs.declared.cell.Cell.{Cell}

@@ -1,5 +1,5 @@
 -- Offers of a row grow by the cell with one place more, and what they lower.
-use Rattle.std.proofs.Common.{zero, suc, ◌≡◌, ◌≢◌, ℕ, ◌+◌, ◌<◌, ◌≤◌, List, [], ◌∷◌, ◌++◌, Bool, true, false, ◌&&◌, ◌||◌, not, Option, Some, None, ap, sym, ◌∙◌}
+use Rattle.std.proofs.Common.{suc, ◌≡◌, ℕ, ◌+◌, ◌<◌, List, [], ◌∷◌, ◌++◌, Bool, true, false, ◌||◌, Option, Some, None, ap, sym, ◌∙◌}
 use Rattle.std.proofs.Common.{refl, length, take, get_or, subst, arith, inl, inr, append-nil}
 use Rattle.std.specs.Prelude.{◌==◌, if◌then◌else◌, IfSome, option_to_list}
 use Rattle.std.proofs.lemmas.Bool.{cases_lt}

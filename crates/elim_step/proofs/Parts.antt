@@ -3,8 +3,8 @@
 --   in_before                          a place of a rising list that is below one of it is before that
 --   is_in-append, part_joined, part_in, part_rising, part_fresh     the part behind a prefix
 --   ahead_fresh                        a place of a rising list stands nowhere before itself
-use Rattle.std.proofs.Common.{zero, suc, ◌≡◌, ◌≢◌, ℕ, ◌+◌, ◌<◌, ◌≤◌, List, [], ◌∷◌, ◌++◌, Bool, true, false, ◌&&◌, ◌||◌, not, ap, sym, ◌∙◌, refl, length}
-use Rattle.std.proofs.Common.{take, drop, get_or, subst, arith, inl, inr, ◌⊎◌}
+use Rattle.std.proofs.Common.{zero, suc, ◌≡◌, ℕ, ◌+◌, ◌<◌, ◌≤◌, List, [], ◌∷◌, ◌++◌, Bool, true, false, ◌||◌, ap, sym, ◌∙◌, refl, length}
+use Rattle.std.proofs.Common.{take, drop, get_or, subst, arith, inl, inr}
 use Rattle.std.specs.Prelude.{◌==◌}
 use Rattle.std.proofs.Math.Seq.{take-add}
 use Rattle.std.proofs.Math.Bool.{or-false, or_comm}

@@ -1,6 +1,6 @@
 -- A tree of matches has at its root the place that comes first, and stays one while a leaf changes.
-use Rattle.std.proofs.Common.{zero, suc, ◌≡◌, ◌≢◌, ℕ, ◌+◌, ◌-◌, ◌*◌, ◌/◌, ◌<◌, ◌≤◌, List, Bool, true, false, ◌&&◌, ◌||◌, Option, Some, None, ap, sym, ◌∙◌}
-use Rattle.std.proofs.Common.{refl, length, set, arith, subst, inl, inr, get_or-set_same, get_or-set_other, length-set}
+use Rattle.std.proofs.Common.{zero, suc, ◌≡◌, ◌≢◌, ℕ, ◌+◌, ◌-◌, ◌*◌, ◌/◌, ◌<◌, ◌≤◌, List, true, false, Option, Some, None, ap, sym, ◌∙◌}
+use Rattle.std.proofs.Common.{refl, length, set, arith, subst, inl, inr, get_or-set_same, get_or-set_other}
 use Rattle.std.specs.Prelude.{◌==◌, IfSome, if◌then◌else◌}
 use Rattle.std.proofs.Math.ListN.{get_or-eq_default}
 use Rattle.std.proofs.lemmas.Bool.{cases_lt}

@@ -6,8 +6,7 @@
 -- it is formed. And a cell that is lowered to the same sum twice is lowered once. So two regions, one after the other,
 -- are their union (`region-join`), whatever they share, and the order does not matter. Each loop keeps "the cells are
 -- those after the region so far", and at its end the region is that of all pairs of neighbours.
-use Rattle.std.proofs.Common.{◌≡◌, ℕ, ◌<◌, ◌≤◌, List, Bool, true, false, ◌&&◌, ◌||◌, not, Option, Some, None, ap, sym, ◌∙◌, refl, arith, take, get_or}
-use Rattle.std.proofs.Common.{length, ◌+◌}
+use Rattle.std.proofs.Common.{◌≡◌, ℕ, ◌<◌, ◌≤◌, List, Bool, true, false, ◌&&◌, ◌||◌, not, Option, Some, None, ap, ◌∙◌, refl, arith}
 use Rattle.std.specs.Prelude.{◌==◌, if◌then◌else◌, int_lt, nat_lt, nat_le}
 use Rattle.std.proofs.Math.Bool.{and-false}
 use Rattle.std.proofs.lemmas.Bool.Decides.{nat_tests}

@@ -3,16 +3,15 @@
 --   out_lowered, both_lowered   what the reading of one row lowers
 --   block-none, block-more, block-away      one row more
 --   rows-none, rows-more, rows-away         one block more
-use Rattle.std.proofs.Common.{zero, suc, ◌≡◌, ◌≢◌, ℕ, ◌+◌, ◌<◌, ◌≤◌, List, [], ◌∷◌, ◌++◌, Bool, true, false, ◌&&◌, ◌||◌, not, Option, Some, None, ap, sym}
-use Rattle.std.proofs.Common.{◌∙◌, refl, length, take, get_or, arith, subst}
+use Rattle.std.proofs.Common.{◌≡◌, ◌≢◌, ℕ, List, [], ◌∷◌, ◌++◌, Bool, true, false, ◌&&◌, ◌||◌, not, Option, Some, None, ap, sym}
+use Rattle.std.proofs.Common.{◌∙◌, refl, arith, subst}
 use Rattle.std.specs.Prelude.{ℤ, ◌<ℤ◌, ◌≤ℤ◌, ◌==◌, if◌then◌else◌, int_lt}
-use Rattle.std.proofs.Math.Bool.{and-false, or-false}
-use Rattle.std.proofs.lemmas.Bool.{false≢true}
+use Rattle.std.proofs.Math.Bool.{and-false}
 use Rattle.std.proofs.lemmas.Bool.Decides.{nat_tests}
 use Rattle.std.proofs.lemmas.Int.{ints}
 use Rattle.dist_rows.specs.declared.cell.Cell.{Cell}
 use Rattle.dist_rows.specs.declared.cell.Offer.{Offer}
-use Rattle.dist_rows.specs.Cells.{lesser, after_offer, offer_to, row_lowered}
+use Rattle.dist_rows.specs.Cells.{after_offer, row_lowered}
 use Rattle.stn_walk.specs.Eliminations.{is_in}
 use Rattle.stn_walk.proofs.Members.{is_in-push, is_in-apart}
 use Rattle.elim_step.specs.Eliminates.{lesser_of, sum_through}

@@ -1,5 +1,5 @@
 -- Blocks: the places of an interval that pass a test, as a list.
-use Rattle.std.specs.Prelude.{◌≡◌, ℕ, ◌+◌, ◌≤◌, List, [], ◌∷◌, Bool, false, ◌&&◌, ◌||◌, ◌==◌, nat_lt, nat_le, length, take}
+use Rattle.std.specs.Prelude.{◌≡◌, ℕ, ◌+◌, ◌≤◌, List, Bool, ◌&&◌, nat_lt, nat_le, length, take}
 use Rattle.dist_rows.specs.Places.{AreRisingPlaces}
 use Rattle.stn_walk.specs.Eliminations.{is_in}
 use Rattle.elim_step.specs.declared.block.Block.{Block}

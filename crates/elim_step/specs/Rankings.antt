@@ -2,7 +2,7 @@
 --   rank_for, first_rank        a place with its key; the first of two
 --   AreMatches, IsRanking       the tree
 --   key_at, IsFirst             the key of a place; a place before which no other one comes
-use Rattle.std.specs.Prelude.{◌≡◌, ℕ, ◌+◌, ◌*◌, ◌<◌, ◌≤◌, List, Bool, false, Option, Some, None, length, slice_index_or, if◌then◌else◌}
+use Rattle.std.specs.Prelude.{◌≡◌, ℕ, ◌+◌, ◌*◌, ◌<◌, ◌≤◌, List, false, Option, Some, None, length, slice_index_or, if◌then◌else◌}
 use Rattle.elim_step.specs.declared.pick.Rank.{Rank}
 use Rattle.elim_step.specs.Picks.{comes_before}
 

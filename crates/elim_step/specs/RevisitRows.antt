@@ -1,5 +1,5 @@
 -- One revisit row by row: the final cells after some of its parts. A block is some places, as many as are read at a time.
-use Rattle.std.specs.Prelude.{ℕ, List, Bool, ◌&&◌, ◌==◌, Option, None, if◌then◌else◌}
+use Rattle.std.specs.Prelude.{ℕ, List, ◌&&◌, ◌==◌, Option, None, if◌then◌else◌}
 use Rattle.dist_rows.specs.declared.cell.Cell.{Cell}
 use Rattle.elim_step.specs.Eliminates.{lesser_of}
 use Rattle.stn_walk.specs.Eliminations.{is_in}

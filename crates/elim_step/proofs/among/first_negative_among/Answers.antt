@@ -1,4 +1,4 @@
-use Rattle.std.proofs.Common.{◌≡◌, ◌∙◌, sym, false, true, take, rules, arith, get_or, ◌+◌}
+use Rattle.std.proofs.Common.{◌≡◌, ◌∙◌, sym, false, true, take, rules, arith}
 use Rattle.std.proofs.lemmas.List.{take_all}
 use Rattle.stn_walk.specs.Eliminations.{is_in}
 use Rattle.stn_walk.proofs.Members.{is_in-at, is_in-cases}

@@ -1,4 +1,4 @@
-use Rattle.std.proofs.Common.{◌≡◌, ◌≤◌, ◌∙◌, ℕ, Bool, ◌&&◌, ap, sym, take, length, ◌+◌, ◌*◌, arith, rules}
+use Rattle.std.proofs.Common.{◌≡◌, ◌≤◌, ◌∙◌, ℕ, Bool, ◌&&◌, ap, take, length, ◌+◌, ◌*◌, arith, rules}
 use Rattle.std.proofs.Math.Bool.{and-false}
 use Rattle.std.proofs.lemmas.List.{take_all}
 use Rattle.stn_walk.specs.Eliminations.{is_in}

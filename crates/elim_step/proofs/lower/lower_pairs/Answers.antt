@@ -1,7 +1,7 @@
 use Rattle.std.proofs.Common.{ℕ, Bool, ◌&&◌, ap, ◌∙◌, arith, rules, take, get_or, ◌+◌}
 use Rattle.std.specs.Prelude.{◌==◌}
 use Rattle.stn_walk.specs.Eliminations.{is_in}
-use Rattle.stn_walk.proofs.Members.{is_in-next, is_in-at, is_in-take, is_in-apart}
+use Rattle.stn_walk.proofs.Members.{is_in-next, is_in-at, is_in-take}
 use Rattle.std.proofs.Math.Bool.{and-false}
 use Rattle.elim_step.proofs.Offerings.{offers_same}
 use Rattle.elim_step.proofs.Regions.{region-join, and-or-left, kept-second}

@@ -1,5 +1,4 @@
-use Rattle.std.proofs.Common.{◌≡◌, ◌∙◌, ◌+◌, ◌*◌, ◌/◌, ◌≤◌, ◌<◌, length, length-set, set, refl, arith}
-use Rattle.elim_step.specs.Rankings.{node_at, first_rank}
+use Rattle.std.proofs.Common.{◌∙◌, ◌/◌, ◌≤◌, ◌<◌, length-set, refl, arith}
 use Rattle.elim_step.proofs.Rankings.{leaf_set, leaf_nodes, match_set, match_leaves, all_matches}
 use Rattle.elim_step.proofs.ranking.play.Goals as goal
 

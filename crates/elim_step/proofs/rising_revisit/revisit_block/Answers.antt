@@ -1,10 +1,9 @@
-use Rattle.std.proofs.Common.{ap, sym, ◌∙◌, arith, rules, take, get_or, ◌≡◌, ℕ, false}
-use Rattle.std.proofs.lemmas.List.{take_more, take_all}
+use Rattle.std.proofs.Common.{ap, sym, ◌∙◌, arith, rules, take, get_or}
+use Rattle.std.proofs.lemmas.List.{take_more}
 use Rattle.stn_walk.proofs.Members.{is_in-at, is_in-apart}
-use Rattle.stn_walk.specs.Eliminations.{is_in}
 use Rattle.elim_step.specs.RevisitRows.{row_after, block_after}
 use Rattle.elim_step.proofs.Parts.{ahead_fresh}
-use Rattle.elim_step.proofs.RevisitRows.{block-none, block-more, block-away}
+use Rattle.elim_step.proofs.RevisitRows.{block-more, block-away}
 use Rattle.elim_step.proofs.rising_revisit.revisit_block.Goals as goal
 
 pub revisit_row-requires : goal.revisit_row-requires

@@ -1,4 +1,4 @@
-use Rattle.std.proofs.Common.{◌≡◌, ◌≤◌, ◌∙◌, ap, sym, take, length, ◌+◌, ◌*◌, ◌++◌, ℕ, arith, rules}
+use Rattle.std.proofs.Common.{◌≡◌, ◌≤◌, ◌∙◌, ap, take, length, ◌+◌, ◌*◌, ℕ, arith, rules}
 use Rattle.std.proofs.lemmas.List.{take_all}
 use Rattle.elim_step.specs.RevisitRows.{block_after, rows_after}
 use Rattle.elim_step.proofs.Parts.{part_in, part_rising, part_away, part_within, part_fresh, part_behind}

@@ -1,4 +1,4 @@
-use Rattle.std.proofs.Common.{◌≡◌, ◌<◌, true, arith, rules, get_or}
+use Rattle.std.proofs.Common.{get_or}
 use Rattle.stn_walk.proofs.Members.{is_in-at}
 use Rattle.elim_step.proofs.Revisits.{revisits}
 use Rattle.elim_step.proofs.rising_revisit.revisit_rows.Goals as goal

@@ -1,4 +1,4 @@
-use Rattle.std.proofs.Common.{◌≡◌, ◌∙◌, sym, rules, true}
+use Rattle.std.proofs.Common.{◌≡◌, ◌∙◌, rules, true}
 use Rattle.stn_walk.proofs.Members.{is_in-at, is_in-cases}
 use Rattle.elim_step.proofs.Roomings.{row_made, row_kept}
 use Rattle.elim_step.proofs.room.make_room_pairs.Goals as goal

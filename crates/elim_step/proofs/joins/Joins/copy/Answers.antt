@@ -1,4 +1,4 @@
-use Rattle.std.proofs.Common.{◌≡◌, ◌≤◌, ◌∙◌, arith, length}
+use Rattle.std.proofs.Common.{◌≡◌, arith, length}
 use Rattle.elim_step.proofs.JoinWrites.{same_lists, copied}
 use Rattle.elim_step.proofs.joins.Joins.copy.Goals as goal
 

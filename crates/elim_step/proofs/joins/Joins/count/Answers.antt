@@ -1,5 +1,4 @@
-use Rattle.std.proofs.Common.{ℕ, Bool, ◌&&◌, sym, ◌≡◌, ◌∙◌, ◌<◌, ◌≤◌, ◌+◌, true, false, arith, rules, length, get_or}
-use Rattle.std.specs.Prelude.{if◌then◌else◌}
+use Rattle.std.proofs.Common.{ℕ, Bool, ◌&&◌, sym, ◌≡◌, ◌<◌, ◌≤◌, arith, rules, get_or}
 use Rattle.stn_walk.proofs.Members.{is_in-at}
 use Rattle.elim_step.specs.Eliminates.{remains}
 use Rattle.elim_step.specs.JoinedPlaces.{is_joined}

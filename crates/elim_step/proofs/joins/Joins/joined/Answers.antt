@@ -1,4 +1,4 @@
-use Rattle.std.proofs.Common.{sym, ap, ◌∙◌, subst, ◌≡◌, ℕ, List, ◌<◌, true}
+use Rattle.std.proofs.Common.{sym, subst, ◌≡◌, ℕ, ◌<◌, true}
 use Rattle.dist_rows.specs.Places.{AreRisingPlaces}
 use Rattle.stn_walk.specs.Eliminations.{is_in}
 use Rattle.elim_step.specs.PlaceLists.{PlaceListView}

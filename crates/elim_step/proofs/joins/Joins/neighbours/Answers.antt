@@ -1,4 +1,4 @@
-use Rattle.std.proofs.Common.{ℕ, Bool, ◌&&◌, sym, ◌++◌, [], ◌∷◌, ◌≡◌, ◌∙◌, ap, ◌<◌, true, false, arith, rules, length, get_or}
+use Rattle.std.proofs.Common.{ℕ, Bool, ◌&&◌, sym, ◌++◌, [], ◌∷◌, ◌≡◌, ◌∙◌, ap, rules, get_or}
 use Rattle.std.specs.Prelude.{if◌then◌else◌}
 use Rattle.stn_walk.proofs.Members.{is_in-at}
 use Rattle.elim_step.specs.Eliminates.{remains}

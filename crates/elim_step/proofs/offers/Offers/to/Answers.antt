@@ -1,8 +1,8 @@
-use Rattle.std.proofs.Common.{ℕ, ◌≡◌, ◌∙◌, ◌≤◌, ◌+◌, ◌++◌, take, get_or, sym, subst, ap, Option, None, arith, rules}
+use Rattle.std.proofs.Common.{◌≡◌, ◌∙◌, ◌++◌, get_or, subst, ap, Option, arith, rules}
 use Rattle.std.specs.Prelude.{option_to_list, IfSome}
 use Rattle.dist_rows.specs.declared.cell.Cell.{Cell}
 use Rattle.dist_rows.specs.Cells.{IsLight}
-use Rattle.elim_step.specs.Offered.{offers_of, offer_for, AreCells, AreOffers}
+use Rattle.elim_step.specs.Offered.{offers_of, offer_for}
 use Rattle.elim_step.proofs.Offerings.{offers_more}
 use Rattle.elim_step.proofs.offers.Offers.to.Goals as goal
 

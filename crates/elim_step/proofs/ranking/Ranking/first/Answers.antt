@@ -1,4 +1,4 @@
-use Rattle.std.proofs.Common.{◌<◌, ◌≡◌, sym, arith, rules, None}
+use Rattle.std.proofs.Common.{◌<◌, arith, rules, None}
 use Rattle.std.proofs.lemmas.List.{get_or_read}
 use Rattle.elim_step.proofs.Rankings.{root_is_first}
 use Rattle.elim_step.proofs.ranking.Ranking.first.Goals as goal
