@@ -121,7 +121,7 @@ fn failing(found: Found) -> Option<u32> {
     }
 }
 
-// Eliminates a place of rows of four places with these cells, among all that remain and among those of a list.
+// Eliminates a place of rows of four places with these cells.
 fn eliminates<L: Ledger>(
     rt: &impl Abort,
     alloc: Global,
@@ -139,18 +139,50 @@ fn eliminates<L: Ledger>(
     fill(rt, &mut rows, cells)?;
     assert!(rt; remain.len() == 4 && k < 4);
     let mut steps = Steps::<L>::new(blank);
-    assert_eq!(rt; negative_with(&rows, k, remain), failing(found));
     assert_eq!(rt; eliminate_point(&mut rows, k, remain, &mut steps)?, found);
     holds(rt, &rows, after);
-    let mut listed = MatrixRows::new(alloc, 4)?;
-    fill(rt, &mut listed, cells)?;
-    let mut others = Vec::new(alloc);
-    list_others(alloc, k, remain, &mut others)?;
-    assert_eq!(rt;
-        eliminate_among(&mut listed, k, others.as_slice(), &mut steps)?,
-        found
-    );
-    holds(rt, &listed, after);
+    Ok(())
+}
+
+// The same among the places of a list.
+fn eliminates_among<L: Ledger>(
+    rt: &impl Abort,
+    alloc: Global,
+    blank: Blank,
+    cells: &[(u32, u32, i128)],
+    k: u32,
+    others: &[u32],
+    found: Found,
+    after: &[(u32, u32, Cell)],
+) -> Result<(), Fail>
+    requires name { blank.name ≡ L.name }
+    requires parts { (blank.parts ≡ L.parts) × (blank.parts ≡ 1) }
+    requires within { k < 4 }
+    requires others { AreWithin 4 others.now }
+    requires rising { AreRisingPlaces others.now }
+    requires away { is_in others.now k ≡ false }
+{
+    let mut rows = MatrixRows::new(alloc, 4)?;
+    fill(rt, &mut rows, cells)?;
+    let mut steps = Steps::<L>::new(blank);
+    assert_eq!(rt; eliminate_among(&mut rows, k, others, &mut steps)?, found);
+    holds(rt, &rows, after);
+    Ok(())
+}
+
+// What it would answer, without a write.
+fn fails(
+    rt: &impl Abort,
+    alloc: Global,
+    cells: &[(u32, u32, i128)],
+    k: u32,
+    remain: &[bool],
+    found: Found,
+) -> Result<(), Fail> {
+    let mut rows = MatrixRows::new(alloc, 4)?;
+    fill(rt, &mut rows, cells)?;
+    assert!(rt; remain.len() == 4 && k < 4);
+    assert_eq!(rt; negative_with(&rows, k, remain), failing(found));
     Ok(())
 }
 
@@ -164,7 +196,7 @@ const PLAN: [(u32, u32, i128); 6] = [
     (2, 0, 0),
 ];
 
-// The same with a counter of its own.
+// All three of these, with counters of their own.
 fn case(
     rt: &impl Abort,
     alloc: Global,
@@ -174,7 +206,21 @@ fn case(
     found: Found,
     after: &[(u32, u32, Cell)],
 ) -> Result<(), Fail> {
-    eliminates::<Brand>(rt, alloc, Blank::new(1), cells, k, remain, found, after)
+    eliminates::<Brand>(rt, alloc, Blank::new(1), cells, k, remain, found, after)?;
+    fails(rt, alloc, cells, k, remain, found)?;
+    assert!(rt; remain.len() == 4 && k < 4);
+    let mut others = Vec::new(alloc);
+    list_others(alloc, k, remain, &mut others)?;
+    eliminates_among::<Brand>(
+        rt,
+        alloc,
+        Blank::new(1),
+        cells,
+        k,
+        others.as_slice(),
+        found,
+        after,
+    )
 }
 
 #[test]

@@ -21,7 +21,8 @@ loop-n-preserved g c =
     let k = c.args.k in
     let was = c.loop-n.invariant in
     record {
-      none = λ m here. is_in-cases {P = is_negative (f k m) (f m k) ≡ false} m xs n (search rules) here (was.none m) (λ e. rw e ((λ t. is_negative (sym c.get.ensures t) (sym c.get-in-loop-n.ensures t)) ∙ sym c.sums_below.ensures ∙ c.if-sums_below.false));
+      none = λ m here. is_in-cases {P = is_negative (f k m) (f m k) ≡ false} m xs n (search rules) here (was.none m)
+          (λ e. rw e ((λ t. is_negative (sym c.get.ensures t) (sym c.get-in-loop-n.ensures t)) ∙ sym c.sums_below.ensures ∙ c.if-sums_below.false));
       steps = (let ticked = c.tick.ensures in let had = was.steps in omega arith);
     }
 
