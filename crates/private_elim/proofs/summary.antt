@@ -3,3 +3,4 @@ pub mod RowFacts
 pub mod SumsUp
 pub mod EntryLookups
 pub mod Entries
+pub mod SameSummaries

@@ -5,3 +5,4 @@ pub mod SweepEnds
 pub mod Bounds
 pub mod SweepTurns
 pub mod SameParts
+pub mod Rooms

@@ -1,7 +1,6 @@
 -- Taking private points one by one.
 pub mod TakenFacts
 pub mod Forwards
-pub mod OriginFacts
 pub mod Counts
 pub mod Takes
 pub mod Laying
@@ -10,3 +9,4 @@ pub mod CandidateFacts
 pub mod Choices
 pub mod Answered
 pub mod Orders
+pub mod Underways

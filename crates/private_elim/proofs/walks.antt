@@ -1,5 +1,5 @@
 -- Walks of own arcs, and the conflicts that they are.
-pub mod Unfolding
+pub mod LeafWalks
 pub mod NoConflicts
 pub mod NumberedWalks
 pub mod Failing
@@ -8,3 +8,4 @@ pub mod Between
 pub mod Detours
 pub mod ReducedWalks
 pub mod OwnWalks
+pub mod NoNegatives

@@ -1,5 +1,5 @@
 -- The cells and joined places of some arcs alone: IsLaidArc, IsLaid.
-use Rattle.std.specs.Prelude.{◌≡◌, ◌≢◌, ℕ, ◌<◌, Bool, ◌&&◌, ◌||◌, ◌==◌, not, Option, Some, length, take, IfSome}
+use Rattle.std.specs.Prelude.{◌≡◌, ◌≢◌, ℕ, ◌<◌, Bool, ◌&&◌, ◌||◌, ◌==◌, not, Option, Some, [], length, take}
 use Rattle.stn_walk.specs.Eliminations.{bound_of}
 use Rattle.stn_walk.specs.Joins.{has_edge}
 use Rattle.dist_rows.specs.declared.cell.Cell.{Cell}
@@ -7,7 +7,7 @@ use Rattle.dist_rows.specs.declared.cell.Via.TheVariants.{Given}
 use Rattle.dist_rows.specs.Cells.{lowered}
 use Rattle.elim_step.specs.Eliminated.{weight_at, point_at}
 use Rattle.private_elim.specs.Locals.{LocalView, arcs_in, local_arc_at, place_in}
-use Rattle.private_elim.specs.Origins.{IsArcOf}
+use Rattle.elim_step.specs.Origins.{IsArcLeaf, HasOrigins}
 
 -- what the arc of this number changes: it may lower the cell of its ends, and joins them
 pub record IsLaidArc (v : LocalView) (k : ℕ) (at after : ℕ → ℕ → Option Cell) (joined joined' : ℕ → ℕ → Bool) : Type 0 where
@@ -24,4 +24,4 @@ pub record IsLaid (v : LocalView) (n : ℕ) (at : ℕ → ℕ → Option Cell) (
       → weight_at (at i j) ≡ bound_of (take n (arcs_in v)) (point_at v.points i) (point_at v.points j)
   pub joins : (i j : ℕ) → i < length v.points → j < length v.points → i ≢ j
       → joined i j ≡ has_edge (take n (arcs_in v)) (point_at v.points i) (point_at v.points j)
-  pub origins : (p q : ℕ) → IfSome (at p q) (λ c. (m : ℕ) × (c.via ≡ Given m) × IsArcOf v.points (arcs_in v) p q c m)
+  pub origins : HasOrigins (IsArcLeaf v.points (arcs_in v)) v.points [] at

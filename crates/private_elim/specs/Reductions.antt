@@ -1,30 +1,19 @@
--- The answers of a reduction, is_conflict, IfReduced, IfConflict, and what they say of networks: OfNetwork, HasPart, OfPart, HasOwnConflict,
--- AreOwn.
-use Rattle.std.specs.Prelude.{◌≡◌, ℕ, List, map, Bool, true, false}
+-- The answers of a reduction, is_conflict, IfReduced, IfConflict, and what they say of networks: OfNetwork, HasOwnConflict, AreOwn.
+use Rattle.std.specs.Prelude.{◌≡◌, ℕ, List, Bool, true, false}
 use Rattle.std.specs.List.{AllByRecursion}
 use Rattle.stn_model.specs.Arcs.{arc_at}
 use Rattle.stn_model.specs.Net.{Net, arcs_of}
 use Rattle.stn_model.specs.Valid.{IsNetwork}
-use Rattle.stn_model.specs.Kinds.{is_shared, is_own}
-use Rattle.stn_model.specs.Conflicts.{own_arcs, IsOwnConflict}
+use Rattle.stn_model.specs.Kinds.{is_own}
+use Rattle.stn_model.specs.Conflicts.{IsOwnConflict}
 use Rattle.private_elim.specs.declared.outcome.PrivateOutcome.{PrivateOutcome}
 use Rattle.private_elim.specs.declared.outcome.PrivateOutcome.TheVariants.{Reduced, Conflict}
-use Rattle.private_elim.specs.Locals.{LocalView, points_of, local_of, arcs_in}
+use Rattle.private_elim.specs.Locals.{LocalView, local_of}
 use Rattle.private_elim.specs.ReducedViews.{ReducedView}
 
 -- what holds of every network whose local problem it is
 abbrev pub OfNetwork : LocalView → (Net → Type 0) → Type 0
 OfNetwork v holds = (net : Net) → IsNetwork net → v ≡ local_of net v.agent → holds net
-
--- the agent has these points with these kinds and these own arcs in the network, whatever the numbers of the arcs there
-pub record HasPart (net : Net) (v : LocalView) : Type 0 where
-  pub points : v.points ≡ points_of net v.agent
-  pub shared : v.shared ≡ map (is_shared net) (points_of net v.agent)
-  pub arcs : arcs_in v ≡ own_arcs net v.agent
-
--- what holds of every such network
-abbrev pub OfPart : LocalView → (Net → Type 0) → Type 0
-OfPart v holds = (net : Net) → IsNetwork net → HasPart net v → holds net
 
 -- some cycle is an own conflict of the agent
 abbrev pub HasOwnConflict : Net → ℕ → Type 0

@@ -1,4 +1,4 @@
--- The back sweep underway: IsSeenPlaces, HasGiven, IsSwept.
+-- The back sweep underway: HasRoomAll, IsSeenPlaces, HasGiven, IsSwept.
 use Rattle.std.specs.Prelude.{◌≡◌, ◌≢◌, ℕ, ◌+◌, ◌-◌, ◌*◌, ◌<◌, ◌≤◌, nat_abs, List, Bool, true, false, ◌||◌, not, Option, is_some, IfSome, length, take}
 use Rattle.stn_model.specs.Limits.{greatest_walk}
 use Rattle.stn_model.specs.Net.{arcs_of}
@@ -10,9 +10,15 @@ use Rattle.elim_step.specs.declared.summary.SummaryEntry.{SummaryEntry}
 use Rattle.elim_step.specs.Eliminates.{remains}
 use Rattle.elim_step.specs.Eliminated.{weight_at, point_at}
 use Rattle.private_elim.specs.Locals.{LocalView, arcs_in, private_at}
-use Rattle.private_elim.specs.ReducedViews.{entry_in}
-use Rattle.private_elim.specs.Reductions.{OfPart}
+use Rattle.private_elim.specs.Taken.{TakenView}
+use Rattle.private_elim.specs.SummaryRows.{joined_at}
+use Rattle.elim_step.specs.Summaries.{entry_in}
+use Rattle.private_elim.specs.Parts.{OfPart}
 use Rattle.private_elim.specs.Backs.{HoldsFinals}
+
+-- each pair of joined places has room
+abbrev pub HasRoomAll : TakenView → (ℕ → ℕ → Bool) → Type 0
+HasRoomAll t room = (p q : ℕ) → p < length t.local.points → q < length t.local.points → p ≢ q → joined_at t p q ≡ true → room p q ≡ true
 
 -- two different places of the local problem, neither of them private
 pub record IsSeenPlaces (v : LocalView) (p q : ℕ) : Type 0 where

@@ -10,7 +10,7 @@ use Rattle.stn_walk.specs.Joins.{joined_of}
 use Rattle.dist_rows.specs.declared.cell.Cell.{Cell}
 use Rattle.elim_step.specs.Eliminated.{IsEliminated, point_at}
 use Rattle.private_elim.specs.Locals.{LocalView, IsLocal, arcs_in, all_numbered, is_private_in, is_point_of}
-use Rattle.private_elim.specs.Origins.{HasOrigins}
+use Rattle.elim_step.specs.Origins.{IsArcLeaf, HasOrigins}
 
 -- a local problem, and the private points that are taken, in their order
 pub record TakenView : Type 0 where
@@ -24,7 +24,7 @@ pub record IsTaken (v : LocalView) (order : List ℕ) (at : ℕ → ℕ → Opti
   pub private : AllByRecursion (λ p. is_private_in v p ≡ true) order
   pub once : AllDifferent order
   pub cells : IsEliminated v.points (arcs_in v) (reverse order) at remain
-  pub origins : HasOrigins v.points (arcs_in v) (reverse order) at
+  pub origins : HasOrigins (IsArcLeaf v.points (arcs_in v)) v.points (reverse order) at
   pub joins : (i j : ℕ) → i < length v.points → j < length v.points → i ≢ j
       → joined i j ≡ joined_of (arcs_in v) (before_both (reverse order) (point_at v.points i) (point_at v.points j)) (point_at v.points i)
       (point_at v.points j)

@@ -1,21 +1,32 @@
--- How the fields of an elimination are seen, and what is true of them: taken_view, IsUnderway.
-use Rattle.std.specs.Prelude.{◌≡◌, ℕ, map, length, slice_index_or, true}
-use Rattle.dist_rows.specs.Matrix.{cell_at}
+-- What is true of the fields of an elimination: taken_view, Fields, IsUnderway.
+use Rattle.std.specs.Prelude.{◌≡◌, ℕ, List, Bool, Option, map, length, slice_index_or, true}
+use Rattle.stn_model.specs.declared.ids.PointId.{PointId}
+use Rattle.dist_rows.specs.declared.cell.Cell.{Cell}
+use Rattle.elim_step.specs.declared.joins.Joins.{Joins}
 use Rattle.elim_step.specs.Eliminates.{remains}
 use Rattle.elim_step.specs.JoinedPlaces.{is_joined}
-use Rattle.private_elim.specs.declared.elimination.Elimination.TheInside.{Inside}
 use Rattle.private_elim.specs.Degrees.{degree_of}
+use Rattle.private_elim.specs.Locals.{LocalView}
 use Rattle.private_elim.specs.Taken.{TakenView, IsTaken}
 
--- what contracts see of the fields
-abbrev pub taken_view : Inside → TakenView
-taken_view e = record { local = e.local; order = map (λ p. p.0) e.order.items }
+-- what contracts see of a local problem and the points taken
+abbrev pub taken_view : LocalView → List PointId → TakenView
+taken_view v order = record { local = v; order = map (λ p. p.0) order }
+
+-- a local problem and the points taken, with the size and the cells of the rows, the joined pairs, the places that remain, and their degrees
+pub record Fields : Type 0 where
+  pub local : LocalView
+  pub order : List ℕ
+  pub places : ℕ
+  pub at : ℕ → ℕ → Option Cell
+  pub joins : Joins
+  pub remain : List Bool
+  pub degrees : List ℕ
 
 -- the sizes agree, the degrees of the places that remain are counts, and all is as the points that are taken leave it
-pub record IsUnderway (e : Inside) : Type 0 where
-  pub square : e.rows.size ≡ length e.local.points
+pub record IsUnderway (e : Fields) : Type 0 where
+  pub square : e.places ≡ length e.local.points
   pub joins_size : e.joins.size ≡ length e.local.points
-  pub degrees_len : length e.degrees.items ≡ length e.local.points
-  pub degrees : (p : ℕ) → remains e.remain.items p ≡ true
-      → slice_index_or e.degrees.items p 0 ≡ degree_of e.remain.items e.joins p
-  pub taken : IsTaken e.local (map (λ p. p.0) e.order.items) (cell_at e.rows.size e.rows.slots.items) (is_joined e.joins) e.remain.items
+  pub degrees_len : length e.degrees ≡ length e.local.points
+  pub degrees : (p : ℕ) → remains e.remain p ≡ true → slice_index_or e.degrees p 0 ≡ degree_of e.remain e.joins p
+  pub taken : IsTaken e.local e.order e.at (is_joined e.joins) e.remain

@@ -1,14 +1,13 @@
 //! What a back sweep begins with: an agent's points, by place, and the final cells between those that others see.
-ghost use Rattle.std.specs.Prelude.{◌≡◌, ◌≢◌, ℕ, ◌+◌, ◌<◌, true, false, not, IfOk, IfSome, IfNone, length, take, slice_index_or};
+ghost use Rattle.std.specs.Prelude.{◌≡◌, ◌≢◌, ℕ, ◌+◌, ◌<◌, true, false, not, None, IfOk, OnOk, IfSome, IfNone, length, take, slice_index_or};
 ghost use Rattle.std.specs.List.{AllPairs};
-ghost use Rattle.dist_rows.specs.Matrix.{cell_at};
 ghost use Rattle.elim_step.specs.Summaries.{is_summary};
 ghost use Rattle.elim_step.specs.Eliminated.{point_at};
 ghost use Rattle.private_elim.specs.Locals.{IsLocal, private_at};
 ghost use Rattle.private_elim.specs.Sweeps.{HasGiven};
 
 use crate::local::Local;
-use dist_rows::{Cell, MatrixRows, Rows, Via};
+use dist_rows::{Cell, Rows, Via};
 use elim_step::SummaryEntry;
 use std::alloc::Global;
 use stn_model::{OutOfMemory, PointId};
@@ -65,42 +64,54 @@ fn seen_place(local: &Local, point: PointId) -> Option<u32>
 }
 
 // Adds the entry of number n to the final cells of those before it, where it is between places that are not private.
-fn add_entry(local: &Local, entries: &[SummaryEntry], n: usize, finals: &mut MatrixRows)
+fn add_entry<R: Rows>(
+    local: &Local,
+    entries: &[SummaryEntry],
+    n: usize,
+    finals: &mut R,
+) -> Result<(), OutOfMemory>
     requires known { IsLocal local.now }
     requires within { n < length entries.now }
     requires valid { is_summary entries.now ≡ true }
-    requires size { finals.old.size ≡ length local.now.points }
-    requires given { HasGiven local.now (take n entries.now) (cell_at finals.old.size finals.old.slots.items) }
-    ensures size { finals.new.size ≡ finals.old.size }
-    ensures given { HasGiven local.now (take (n + 1) entries.now) (cell_at finals.new.size finals.new.slots.items) }
+    requires size { R.places finals.old ≡ length local.now.points }
+    requires given { HasGiven local.now (take n entries.now) (R.at finals.old) }
+    ensures size { R.places finals.new ≡ R.places finals.old }
+    ensures room { (p q : ℕ) → R.has_room finals.old p q ≡ true → R.has_room finals.new p q ≡ true }
+    ensures given { OnOk result (HasGiven local.now (take (n + 1) entries.now) (R.at finals.new)) }
 {
     let entry = entries[n];
     let Some(from) = seen_place(local, entry.from) else {
-        return;
+        return Ok(());
     };
     let Some(to) = seen_place(local, entry.to) else {
-        return;
+        return Ok(());
     };
     let cell = Cell {
         weight: entry.weight,
         via: Via::Published(local.agent()),
     };
+    finals.make_room(from, to)?;
     finals.lower(from, to, cell);
+    Ok(())
 }
 
-/// The final cells of the entries between places that are not private.
-pub fn given_finals(
-    alloc: Global,
+/// Writes the entries between places that are not private into final cells, of which there is none yet.
+pub fn give_finals<R: Rows>(
     local: &Local,
     entries: &[SummaryEntry],
-) -> Result<MatrixRows, OutOfMemory>
+    finals: &mut R,
+) -> Result<(), OutOfMemory>
     requires valid { is_summary entries.now ≡ true }
-    ensures size { IfOk result (λ r. r.size ≡ length local.now.points) }
-    ensures given { IfOk result (λ r. HasGiven local.now entries.now (cell_at r.size r.slots.items)) }
+    requires size { R.places finals.old ≡ length local.now.points }
+    requires empty { (p q : ℕ) → R.at finals.old p q ≡ None }
+    ensures size { R.places finals.new ≡ R.places finals.old }
+    ensures room { (p q : ℕ) → R.has_room finals.old p q ≡ true → R.has_room finals.new p q ≡ true }
+    ensures given { OnOk result (HasGiven local.now entries.now (R.at finals.new)) }
 {
-    let mut finals = MatrixRows::new(alloc, local.size())?;
+    // With the size comes that it is a local problem.
+    let _size = local.size();
     for n in 0..entries.len() {
-        add_entry(local, entries, n, &mut finals);
+        add_entry(local, entries, n, finals)?;
     }
-    Ok(finals)
+    Ok(())
 }

@@ -8,10 +8,11 @@ ghost use Rattle.private_elim.specs.Candidates.{IsCandidate, is_left};
 
 use crate::elimination::Elimination;
 use crate::lists::push_where;
+use dist_rows::Rows;
 use elim_step::Candidate;
 use stn_model::OutOfMemory;
 
-impl Elimination {
+impl<R: Rows> Elimination<R> {
     /// Whether the point at a place is private and not taken.
     fn is_left(&self, place: u32) -> bool
         requires { place < length self.now.local.points }

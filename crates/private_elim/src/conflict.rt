@@ -7,7 +7,7 @@ ghost use Rattle.private_elim.specs.Locals.{is_private_in};
 ghost use Rattle.private_elim.specs.Taken.{Fails};
 ghost use Rattle.private_elim.specs.Reductions.{OfNetwork};
 
-use crate::elimination::Elimination;
+use crate::elimination::SparseElimination;
 use crate::numbers::numbers_of;
 use std::alloc::Global;
 use stn_model::OutOfMemory;
@@ -16,7 +16,7 @@ use stn_walk::{Walk, negative_cycle};
 /// The cycle of an own conflict, by the numbers of its arcs in the network, where the private point at a place fails with another.
 pub fn own_conflict(
     alloc: Global,
-    elimination: &Elimination,
+    elimination: &SparseElimination,
     place: u32,
     other: u32,
 ) -> Result<Walk, OutOfMemory>

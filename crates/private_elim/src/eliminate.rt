@@ -15,11 +15,12 @@ ghost use Rattle.elim_step.specs.Summaries.{entry_of};
 ghost use Rattle.private_elim.specs.Reductions.{OfNetwork, HasOwnConflict, is_conflict, IfReduced, IfConflict};
 
 use crate::conflict::own_conflict;
-use crate::elimination::Elimination;
+use crate::elimination::SparseElimination;
 use crate::local::Local;
 use crate::outcome::PrivateOutcome;
 use crate::summarise::summarise;
 use elim_step::{Candidate, Picker, Steps};
+use sparse_rows::SparseRows;
 use std::alloc::Global;
 use std::marker::Brand;
 use std::sync::ledger::{Blank, Ledger};
@@ -51,7 +52,8 @@ pub fn eliminate_private(
     ensures picks { IfOk result (IfReduced (λ r. ArePicked (post (picker.now.key.vtable, picker.now.key.value)) local.now (reverse r.order))) }
     ensures summary { IfOk result (IfReduced (λ r. OfNetwork local.now (λ net. IsSummary net local.now.agent (map entry_of r.summary)))) }
 {
-    let elimination = Elimination::start(alloc, local)?;
+    let rows = SparseRows::new(alloc, local.size())?;
+    let elimination = SparseElimination::start(alloc, local, rows)?;
     take_picked::<Brand>(alloc, Blank::new(1), elimination, picker)
 }
 
@@ -74,7 +76,8 @@ pub fn eliminate_listed(
     ensures order { IfOk result (IfReduced (λ r. r.order ≡ map (λ p. p.0) order.now)) }
     ensures summary { IfOk result (IfReduced (λ r. OfNetwork local.now (λ net. IsSummary net local.now.agent (map entry_of r.summary)))) }
 {
-    let elimination = Elimination::start(alloc, local)?;
+    let rows = SparseRows::new(alloc, local.size())?;
+    let elimination = SparseElimination::start(alloc, local, rows)?;
     take_listed::<Brand>(alloc, Blank::new(1), elimination, order)
 }
 
@@ -82,7 +85,7 @@ pub fn eliminate_listed(
 fn take_picked<L: Ledger>(
     alloc: Global,
     blank: Blank,
-    elimination: Elimination,
+    elimination: SparseElimination,
     picker: &Picker,
 ) -> Result<PrivateOutcome, OutOfMemory>
     requires name { blank.name ≡ L.name }
@@ -94,13 +97,14 @@ fn take_picked<L: Ledger>(
     let mut steps = Steps::<L>::new(blank);
     let mut elimination = elimination;
     let mut candidates = Vec::new(alloc);
+    let mut met = Vec::new(alloc);
     'taking: loop {
         elimination.candidates(&mut candidates)?;
         let Some(k) = picker.pick(candidates.as_slice()) else {
             return reduced(alloc, elimination);
         };
         let place = picked_place(&elimination, candidates.as_slice(), k);
-        if let Some(other) = elimination.take(alloc, place, &mut steps)? {
+        if let Some(other) = elimination.take(place, &mut met, &mut steps)? {
             return conflict(alloc, &elimination, place, other);
         }
         // With the size comes that no more points are taken than there are, so that the loop ends.
@@ -112,7 +116,7 @@ fn take_picked<L: Ledger>(
 fn take_listed<L: Ledger>(
     alloc: Global,
     blank: Blank,
-    elimination: Elimination,
+    elimination: SparseElimination,
     order: &[PointId],
 ) -> Result<PrivateOutcome, OutOfMemory>
     requires name { blank.name ≡ L.name }
@@ -126,9 +130,10 @@ fn take_listed<L: Ledger>(
 {
     let mut steps = Steps::<L>::new(blank);
     let mut elimination = elimination;
+    let mut met = Vec::new(alloc);
     for n in 0..order.len() {
         let place = listed_place(&elimination, order, n);
-        if let Some(other) = elimination.take(alloc, place, &mut steps)? {
+        if let Some(other) = elimination.take(place, &mut met, &mut steps)? {
             return conflict(alloc, &elimination, place, other);
         }
     }
@@ -136,7 +141,7 @@ fn take_listed<L: Ledger>(
 }
 
 // The place of a candidate.
-fn picked_place(elimination: &Elimination, candidates: &[Candidate], k: usize) -> u32
+fn picked_place(elimination: &SparseElimination, candidates: &[Candidate], k: usize) -> u32
     requires are { AreCandidates elimination.now.local (reverse elimination.now.order) candidates.now }
     requires within { k < length candidates.now }
     ensures { IsNext elimination.now (candidate_at candidates.now k).number result }
@@ -150,7 +155,7 @@ fn picked_place(elimination: &Elimination, candidates: &[Candidate], k: usize) -
 }
 
 // The place of the next point of an order.
-fn listed_place(elimination: &Elimination, order: &[PointId], n: usize) -> u32
+fn listed_place(elimination: &SparseElimination, order: &[PointId], n: usize) -> u32
     requires within { n < length order.now }
     requires taken { elimination.now.order ≡ take n (map (λ p. p.0) order.now) }
     requires private { AllByRecursion (λ p. is_private_in elimination.now.local p.0 ≡ true) order.now }
@@ -166,7 +171,7 @@ fn listed_place(elimination: &Elimination, order: &[PointId], n: usize) -> u32
 }
 
 // The answer once all private points are taken.
-fn reduced(alloc: Global, elimination: Elimination) -> Result<PrivateOutcome, OutOfMemory>
+fn reduced(alloc: Global, elimination: SparseElimination) -> Result<PrivateOutcome, OutOfMemory>
     requires { (p : ℕ) → is_private_in elimination.local p ≡ true → is_in (reverse elimination.order) p ≡ true }
     ensures { IfOk result (IsReducedFrom elimination) }
 {
@@ -180,7 +185,7 @@ fn reduced(alloc: Global, elimination: Elimination) -> Result<PrivateOutcome, Ou
 // The answer where the point at a place fails.
 fn conflict(
     alloc: Global,
-    elimination: &Elimination,
+    elimination: &SparseElimination,
     place: u32,
     other: u32,
 ) -> Result<PrivateOutcome, OutOfMemory>

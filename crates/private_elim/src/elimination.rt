@@ -11,8 +11,9 @@ ghost use Rattle.private_elim.specs.Locals.{arcs_in, is_private_in, all_numbered
 ghost use Rattle.private_elim.specs.Taken.{TakenView, StopsAt, HasTaken};
 
 use crate::local::Local;
-use dist_rows::{Cell, MatrixRows, Rows, Via};
+use dist_rows::{Cell, Rows};
 use elim_step::{Found, Joins, Steps, eliminate_point};
+use sparse_rows::SparseRows;
 use std::alloc::Global;
 use std::marker::Model;
 use std::sync::ledger::Ledger;
@@ -20,9 +21,9 @@ use stn_model::{OutOfMemory, PointId};
 
 /// A local problem of which some private points are taken, with what is left between the others.
 #[derive(Drop)]
-pub struct Elimination {
+pub struct Elimination<R: Rows> {
     pub(crate) local: Local,
-    pub(crate) rows: MatrixRows,
+    pub(crate) rows: R,
     pub(crate) joins: Joins,
     pub(crate) remain: Vec<bool>,
     /// By place: with how many places that remain this one is joined, where it remains.
@@ -30,25 +31,30 @@ pub struct Elimination {
     pub(crate) order: Vec<PointId>,
 }
 
-impl Model for Elimination {
+/// The same over rows for sparse graphs.
+pub type SparseElimination = Elimination<SparseRows>;
+
+impl<R: Rows> Model for Elimination<R> {
     ghost use Rattle.private_elim.specs.Taken.{TakenView};
 
     ghost Value = { TakenView };
 
+    ghost use Rattle.std.specs.Prelude.{map};
     ghost use Rattle.private_elim.specs.Underway.{taken_view, IsUnderway};
 
-    ghost view = { taken_view };
+    ghost view = { λ e. taken_view e.local e.order.items };
 
-    ghost invariant = { IsUnderway };
+    ghost invariant = { λ e. IsUnderway (record { local = e.local; order = map (λ p. p.0) e.order.items; places = R.places e.rows; at = R.at e.rows; joins = e.joins; remain = e.remain.items; degrees = e.degrees.items }) };
 }
 
-impl Elimination {
+impl<R: Rows> Elimination<R> {
     /// Takes the private point at this place. Gives the least place of another point that is left and with which it fails: the
-    /// weights from the one to the other and back sum below 0. Then nothing changes; else the point is taken.
+    /// weights from the one to the other and back sum below 0. Then nothing changes; else the point is taken. Writes the places that
+    /// are left and joined with it into `met`.
     pub fn take<L: Ledger>(
         &mut self,
-        alloc: Global,
         place: u32,
+        met: &mut Vec<u32>,
         steps: &mut Steps<L>,
     ) -> Result<Option<u32>, OutOfMemory>
         requires within { place < length self.old.local.points }
@@ -61,18 +67,19 @@ impl Elimination {
         ensures err { OnErr result (self.new ≡ self.old) }
     {
         let point = self.local.point(place);
-        let neighbours = self.joins.neighbours(alloc, place, self.remain.as_slice())?;
+        self.joins.neighbours(place, self.remain.as_slice(), met)?;
+        self.joins.reserve_all(met.as_slice())?;
         self.order.reserve(1)?;
         match eliminate_point(&mut self.rows, place, self.remain.as_slice(), steps)? {
             Found::Negative(other) => Ok(Some(other)),
             Found::Clear => {
-                self.joins.join_all(neighbours.as_slice());
+                self.joins.join_all_reserved(met.as_slice());
                 self.remain[place as usize] = false;
                 recount(
                     &mut self.degrees,
                     &self.joins,
                     self.remain.as_slice(),
-                    neighbours.as_slice(),
+                    met.as_slice(),
                 );
                 self.order.push_reserved(point);
                 Ok(None)
@@ -123,7 +130,7 @@ impl Elimination {
     }
 
     /// The same local problem with the same points taken.
-    pub fn copy(&self, alloc: Global) -> Result<Elimination, OutOfMemory>
+    pub fn copy(&self, alloc: Global) -> Result<Elimination<R>, OutOfMemory>
         ensures { IfOk result (λ e. e ≡ self.now) }
     {
         let local = self.local.copy(alloc)?;

@@ -5,7 +5,7 @@ ghost use Rattle.stn_model.specs.Net.{point_count};
 ghost use Rattle.stn_model.specs.Valid.{IsNetwork};
 ghost use Rattle.stn_model.specs.Kinds.{is_shared, is_owned_by, is_own};
 ghost use Rattle.elim_step.specs.Eliminated.{point_at};
-ghost use Rattle.private_elim.specs.Locals.{local_of, points_of, numbered_own, window_arcs, IsLocal, place_in, private_at, horizon_in, local_arc_at, IsWindowOf, IsWindow};
+ghost use Rattle.private_elim.specs.Locals.{local_of, points_of, numbered_own, window_arcs, IsLocal, place_in, private_at, is_private_in, horizon_in, local_arc_at, IsWindowOf, IsWindow};
 
 use crate::lists::push_where;
 use elim_step::Window;
@@ -140,6 +140,16 @@ impl Local {
         ensures { result ≡ private_at self.now place }
     {
         place != 0 && !self.shared[place as usize]
+    }
+
+    /// Whether a point is one of the private points.
+    pub fn is_private_point(&self, point: PointId) -> bool
+        ensures { result ≡ is_private_in self.now point.0 }
+    {
+        let Some(place) = self.place_of(point) else {
+            return false;
+        };
+        self.is_private(place)
     }
 
     /// How many arcs there are.

@@ -3,14 +3,19 @@ ghost use Rattle.std.specs.Prelude.{◌≡◌, ◌≢◌, ℤ, ◌<◌, ◌*◌,
 ghost use Rattle.stn_model.specs.Limits.{most_points};
 ghost use Rattle.stn_model.specs.Net.{arcs_of};
 ghost use Rattle.stn_model.specs.Walks as walks;
+ghost use Rattle.stn_model.specs.ArcWalks.{NoNegative};
 ghost use Rattle.stn_model.specs.Inner.{IsInnerWeight};
+ghost use Rattle.stn_model.specs.Summaries.{IsSummary};
 ghost use Rattle.stn_walk.specs.Eliminations.{is_in, before_both};
-ghost use Rattle.private_elim.specs.Locals.{arcs_in, is_point_of, horizon_in};
+ghost use Rattle.private_elim.specs.Locals.{arcs_in, is_point_of, is_private_in, horizon_in};
+ghost use Rattle.elim_step.specs.Summaries.{entry_of};
+ghost use Rattle.private_elim.specs.Parts.{OfPart};
+ghost use Rattle.private_elim.specs.Taken.{NoneFails};
 ghost use Rattle.private_elim.specs.ReducedViews.{weight_between, IsWeightBetween, IsReduced};
 ghost use Rattle.private_elim.specs.Reductions.{OfNetwork, AreOwn};
 ghost use Rattle.private_elim.specs.SummaryRows.{is_pair_at, forward_at, is_over};
 
-use crate::elimination::Elimination;
+use crate::elimination::SparseElimination;
 use crate::numbers::numbers_of;
 use crate::summarise::is_pair;
 use elim_step::Summary;
@@ -23,7 +28,7 @@ use stn_walk::Walk;
 /// weights between its points through private ones.
 #[derive(Drop)]
 pub struct Reduced {
-    pub(crate) elimination: Elimination,
+    pub(crate) elimination: SparseElimination,
     pub(crate) summary: Summary,
 }
 
@@ -40,19 +45,23 @@ impl Model for Reduced {
 }
 
 impl Reduced {
-    /// The private points, in the order in which they were taken.
+    /// The private points, in the order in which they were taken. None of them failed.
     pub fn order(&self) -> &[PointId]
-        ensures { map (λ p. p.0) result.now ≡ self.now.order }
+        ensures order { map (λ p. p.0) result.now ≡ self.now.order }
+        ensures clear { NoneFails self.now.local (reverse self.now.order) }
     {
         self.elimination.order()
     }
 
     /// What the agent tells the others: for each ordered pair of different points that others see (the reference point and its shared
     /// points) and that its own arcs join through private points alone, the least weight of walks of own arcs through those, or the
-    /// horizon where that is less or there is no such walk.
+    /// horizon where that is less or there is no such walk. It is the agent's in every network in which it has this part, whatever the
+    /// numbers of the arcs there. No closed walk of own arcs through private points is negative.
     pub fn summary(&self) -> &Summary
         ensures value { result.now ≡ self.now.summary }
         ensures reduced { IsReduced self.now.local self.now.order self.now.summary }
+        ensures part { OfPart self.now.local (λ net. IsSummary net self.now.local.agent (map entry_of self.now.summary)) }
+        ensures none_below { NoNegative (is_private_in self.now.local) (arcs_in self.now.local) }
     {
         &self.summary
     }
@@ -128,7 +137,7 @@ impl Reduced {
 
 // Whether the walk of the pair's entry goes through the reference point: the pair has an entry, and no forward weight of at most the
 // horizon.
-fn is_detour(elimination: &Elimination, from: u32, to: u32) -> bool
+fn is_detour(elimination: &SparseElimination, from: u32, to: u32) -> bool
     requires within { (from < length elimination.now.local.points) × (to < length elimination.now.local.points) }
     requires apart { from ≢ to }
     ensures { result ≡ (is_pair_at elimination.now from to && is_over (horizon_in elimination.now.local) (forward_at elimination.now from to)) }

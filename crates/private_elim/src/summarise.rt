@@ -6,14 +6,14 @@ ghost use Rattle.private_elim.specs.Locals.{is_private_in};
 ghost use Rattle.private_elim.specs.Taken.{HasTaken};
 ghost use Rattle.private_elim.specs.SummaryRows.{is_pair_at, entry_at, pair_entries, row_of, rows_below};
 
-use crate::elimination::Elimination;
+use crate::elimination::SparseElimination;
 use crate::reduced::Reduced;
 use elim_step::{Summary, SummaryEntry};
 use std::alloc::Global;
 use stn_model::OutOfMemory;
 
 /// The reduced local problem, once all private points are taken, or OutOfMemory.
-pub fn summarise(alloc: Global, elimination: Elimination) -> Result<Reduced, OutOfMemory>
+pub fn summarise(alloc: Global, elimination: SparseElimination) -> Result<Reduced, OutOfMemory>
     requires whole { (p : ℕ) → is_private_in elimination.local p ≡ true → is_in (reverse elimination.order) p ≡ true }
     ensures local { IfOk result (λ r. r.local ≡ elimination.local) }
     ensures order { IfOk result (λ r. r.order ≡ elimination.order) }
@@ -29,7 +29,10 @@ pub fn summarise(alloc: Global, elimination: Elimination) -> Result<Reduced, Out
 }
 
 // The entries of all pairs that have one, by rising pairs.
-fn entries_of(alloc: Global, elimination: &Elimination) -> Result<Vec<SummaryEntry>, OutOfMemory>
+fn entries_of(
+    alloc: Global,
+    elimination: &SparseElimination,
+) -> Result<Vec<SummaryEntry>, OutOfMemory>
     ensures entries { IfOk result (λ entries. entries.items ≡ rows_below elimination.now (length elimination.now.local.points)) }
     ensures taken { HasTaken elimination.now }
 {
@@ -43,7 +46,7 @@ fn entries_of(alloc: Global, elimination: &Elimination) -> Result<Vec<SummaryEnt
 // Adds the entries from a place.
 fn push_row(
     entries: &mut Vec<SummaryEntry>,
-    elimination: &Elimination,
+    elimination: &SparseElimination,
     i: u32,
 ) -> Result<(), OutOfMemory>
     requires { i < length elimination.now.local.points }
@@ -61,7 +64,7 @@ fn push_row(
 // Adds the entry from one place to another, where there is one.
 fn push_pair(
     entries: &mut Vec<SummaryEntry>,
-    elimination: &Elimination,
+    elimination: &SparseElimination,
     i: u32,
     j: u32,
 ) -> Result<(), OutOfMemory>
@@ -75,7 +78,7 @@ fn push_pair(
 }
 
 // Whether the summary has an entry from one place to another.
-pub(crate) fn is_pair(elimination: &Elimination, i: u32, j: u32) -> bool
+pub(crate) fn is_pair(elimination: &SparseElimination, i: u32, j: u32) -> bool
     requires { (i < length elimination.now.local.points) × (j < length elimination.now.local.points) }
     ensures { result ≡ is_pair_at elimination.now i j }
 {
@@ -84,7 +87,7 @@ pub(crate) fn is_pair(elimination: &Elimination, i: u32, j: u32) -> bool
 }
 
 // The entry from one place to another.
-fn entry(elimination: &Elimination, i: u32, j: u32) -> SummaryEntry
+fn entry(elimination: &SparseElimination, i: u32, j: u32) -> SummaryEntry
     requires within { (i < length elimination.now.local.points) × (j < length elimination.now.local.points) }
     requires apart { i ≢ j }
     ensures { result ≡ entry_at elimination.now i j }

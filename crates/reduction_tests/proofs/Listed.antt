@@ -13,7 +13,8 @@ use Rattle.stn_model.specs.Inner.{IsInnerWeight}
 use Rattle.elim_step.specs.declared.summary.Window.{Window}
 use Rattle.elim_step.specs.Eliminated.{point_at}
 use Rattle.private_elim.specs.Locals.{LocalView, IsLocal, is_private_in, place_in, private_at, passes_at, arcs_in, IsWindowOf}
-use Rattle.private_elim.specs.ReducedViews.{ReducedView, entry_in, IsWeightBetween}
+use Rattle.elim_step.specs.Summaries.{entry_in}
+use Rattle.private_elim.specs.ReducedViews.{ReducedView, IsWeightBetween}
 use Rattle.private_elim.proofs.taking.Choices.{private_placed}
 use Rattle.private_elim.proofs.locals.Places.{place_found}
 

@@ -5,7 +5,7 @@ ghost use Rattle.stn_model.specs.Walks.{AllDifferent};
 ghost use Rattle.stn_walk.specs.Eliminations.{is_in};
 ghost use Rattle.private_elim.specs.Locals.{all_numbered, is_private_in};
 
-use crate::asked::{either, is_listed, is_private, weight_in};
+use crate::asked::{either, is_listed};
 use elim_step::Window;
 use private_elim::{Local, PrivateOutcome, Reduced, eliminate_listed};
 use std::alloc::Global;
@@ -18,7 +18,7 @@ fn are_private(local: &Local, order: &[PointId]) -> bool
     ensures { result ≡ true → AllByRecursion (λ p. is_private_in local.now p.0 ≡ true) order.now }
 {
     for p in order {
-        if !is_private(local, *p) {
+        if !local.is_private_point(*p) {
             return false;
         }
     }
@@ -62,7 +62,7 @@ pub fn in_order(alloc: Global, local: &Local, order: &[PointId]) -> Result<Priva
 /// The walk of a pair.
 pub fn walk_of(alloc: Global, reduced: &Reduced, i: u32, j: u32) -> Result<Walk, Fail> {
     let (i, j) = (PointId(i), PointId(j));
-    let entry = weight_in(reduced.summary().entries(), i, j);
+    let entry = reduced.summary().weight(i, j);
     let forward = reduced.forward(i, j);
     if !either(entry.is_some(), forward.is_some()) {
         return Err(Fail::new("no walk"));

@@ -17,7 +17,8 @@ use Rattle.elim_step.specs.Summaries.{is_valid, is_less, may_follow, may_all_fol
 use Rattle.elim_step.specs.Eliminated.{weight_at, point_at}
 use Rattle.elim_step.proofs.FinalWeights.{IsApart}
 use Rattle.private_elim.specs.Locals.{LocalView, IsLocal}
-use Rattle.private_elim.specs.ReducedViews.{entry_in, first_there}
+use Rattle.elim_step.specs.Summaries.{entry_in}
+use Rattle.private_elim.specs.ReducedViews.{first_there}
 use Rattle.private_elim.specs.Sweeps.{IsSeenPlaces, HasGiven}
 use Rattle.private_elim.proofs.taking.Takes.{local_ground}
 

@@ -8,7 +8,7 @@ use Rattle.stn_model.specs.Summaries.{Entry, IsEntryWeight, entry_weight}
 use Rattle.stn_walk.proofs.Visits.{least_unique}
 use Rattle.elim_step.specs.declared.summary.SummaryEntry.{SummaryEntry}
 use Rattle.elim_step.specs.Summaries.{entry_of}
-use Rattle.private_elim.specs.ReducedViews.{entry_in}
+use Rattle.elim_step.specs.Summaries.{entry_in}
 
 -- whether an entry is that of a pair
 abbrev is_entry_of : SummaryEntry → ℕ → ℕ → Bool

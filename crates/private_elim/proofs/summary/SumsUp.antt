@@ -24,14 +24,17 @@ use Rattle.elim_step.specs.declared.summary.SummaryEntry.{SummaryEntry}
 use Rattle.elim_step.specs.Summaries.{is_valid, is_summary}
 use Rattle.elim_step.proofs.Weights.{forward-whole}
 use Rattle.elim_step.specs.Eliminated.{point_at}
-use Rattle.private_elim.specs.Locals.{local_of, arcs_in, place_in, private_at, passes_at, is_private_in, is_seen_in, horizon_in}
+use Rattle.private_elim.specs.Locals.{arcs_in, place_in, private_at, passes_at, is_private_in, is_seen_in, horizon_in}
 use Rattle.elim_step.specs.Summaries.{entry_of}
+use Rattle.private_elim.specs.Parts.{HasPart}
 use Rattle.private_elim.specs.ReducedViews.{IsReduced}
 use Rattle.private_elim.specs.Taken.{TakenView, HasTaken}
 use Rattle.private_elim.specs.SummaryRows.{is_pair_at, joined_at, forward_at, entry_at, rows_below}
 use Rattle.private_elim.proofs.locals.Places.{place_found}
 use Rattle.private_elim.proofs.locals.Parts.{Contains-map}
-use Rattle.private_elim.proofs.locals.LocalFacts.{rises, place_of_point_at, horizon_is, arcs_of_net, private_of_net, seen_of_net, horizon_of_net}
+use Rattle.private_elim.proofs.locals.LocalFacts.{rises, place_of_point_at, horizon_is}
+use Rattle.private_elim.proofs.locals.PartNetworks.{private_of_part, seen_of_part, horizon_of_part, has_part}
+use Rattle.private_elim.proofs.taking.Takes.{none_fails}
 use Rattle.private_elim.proofs.walks.NoConflicts.{no_own_conflict}
 use Rattle.private_elim.proofs.taking.TakenFacts.{taken_private, forward_light, least_through, none_below_through, none_below_within}
 use Rattle.private_elim.proofs.summary.RowFacts.{IsLess, IsEntry, HasEntries, all_entries, is_summary-from_rising}
@@ -159,16 +162,16 @@ module _ (t : TakenView) (h : HasTaken t) where
       (All-weaker (IsEntry t (length t.local.points) 0) (λ e. is_valid e ≡ true) valid_entry (rows_below t (length t.local.points)) entries.each)
       entries.rising
 
-  -- of a network whose local problem it is, once all private points are taken
-  module _ (whole : (p : ℕ) → is_private_in t.local p ≡ true → is_in (reverse t.order) p ≡ true) (net : Net) (e : t.local ≡ local_of net t.local.agent) where
+  -- of a network in which the agent has this part, once all private points are taken
+  module _ (whole : (p : ℕ) → is_private_in t.local p ≡ true → is_in (reverse t.order) p ≡ true) (net : Net) (part : HasPart net t.local) where
     -- the taken points are the private points of the agent
     taken_is : (p : ℕ) → is_in (reverse t.order) p ≡ is_private_of net t.local.agent p
     taken_is p =
-        same_answer (is_in (reverse t.order) p) (is_private_in t.local p) (taken_private t h p) (whole p) ∙ private_of_net t.local net e p
+        same_answer (is_in (reverse t.order) p) (is_private_in t.local p) (taken_private t h p) (whole p) ∙ private_of_part t.local net part p
 
     pub none_below_private : NoNegative (is_private_of net t.local.agent) (own_arcs net t.local.agent)
     none_below_private =
-        subst (NoNegative (is_private_of net t.local.agent)) (arcs_of_net t.local net e)
+        subst (NoNegative (is_private_of net t.local.agent)) part.arcs
         (none_below_through (is_in (reverse t.order)) (is_private_of net t.local.agent) taken_is (arcs_in t.local) h.none_below)
 
     -- the weight between two places of which none is private is an inner weight through private points
@@ -184,13 +187,13 @@ module _ (t : TakenView) (h : HasTaken t) where
         (cell-least (arcs_in t.local) (reverse t.order) h.none_below p q) in
         record {
           sound = none_below_within (is_private_of net t.local.agent) (own_arcs net t.local.agent) none_below_private;
-          least = subst (λ arcs. IsInnerLeast (is_private_of net t.local.agent) arcs p q (forward_at t i j)) (arcs_of_net t.local net e)
+          least = subst (λ arcs. IsInnerLeast (is_private_of net t.local.agent) arcs p q (forward_at t i j)) part.arcs
               (least_through (is_in (reverse t.order)) (is_private_of net t.local.agent) taken_is (arcs_in t.local) p q (forward_at t i j) cell);
         }
 
     -- a place is seen by others where it is not private
     seen_is : (i : ℕ) → i < length t.local.points → private_at t.local i ≡ false → is_seen net t.local.agent (point_at t.local.points i) ≡ true
-    seen_is i li other = sym (seen_of_net t.local net e (point_at t.local.points i)) ∙ seen_here i li ∙ ap not other
+    seen_is i li other = sym (seen_of_part t.local net part (point_at t.local.points i)) ∙ seen_here i li ∙ ap not other
 
     -- a path through taken points is one through private points
     privately : (ps : List ℕ) → AllByRecursion (λ p. is_in (reverse t.order) p ≡ true) ps → AllByRecursion (λ p. is_private_of net t.local.agent p ≡ true) ps
@@ -214,7 +217,7 @@ module _ (t : TakenView) (h : HasTaken t) where
           from = seen_is i li p.start_seen;
           to = seen_is j lj p.end_seen;
           inner = path.0;
-          path = subst (λ arcs. IsPath arcs x y path.0) (arcs_of_net t.local net e) path.1;
+          path = subst (λ arcs. IsPath arcs x y path.0) part.arcs path.1;
           privately = privately path.0 path.2;
         }
 
@@ -224,7 +227,7 @@ module _ (t : TakenView) (h : HasTaken t) where
     entry_is i j li lj p = (
       forward_at t i j,
       weight_is i j li lj p.start_seen p.end_seen,
-      ap (λ z. entry_weight z (forward_at t i j)) (horizon_of_net t.local net e (at_least_two i j (length t.local.points) li lj p.apart)),
+      ap (λ z. entry_weight z (forward_at t i j)) (horizon_of_part t.local net part (at_least_two i j (length t.local.points) li lj p.apart)),
     )
 
     -- a place of a point that others see
@@ -242,10 +245,10 @@ module _ (t : TakenView) (h : HasTaken t) where
     place_of_seen p is =
         elim (place_in t.local.points p) as (λ o. place_in t.local.points p ≡ o → Seen p) [
           | None ↦ λ missing.
-              absurd (false≢true (ap (passes_at (λ k. not (private_at t.local k))) (sym missing) ∙ seen_of_net t.local net e p ∙ is))
+              absurd (false≢true (ap (passes_at (λ k. not (private_at t.local k))) (sym missing) ∙ seen_of_part t.local net part p ∙ is))
           | Some k ↦ λ found.
               let there = place_found t.local.points p k found in
-              let other = ap (passes_at (λ m. not (private_at t.local m))) (sym found) ∙ seen_of_net t.local net e p ∙ is in
+              let other = ap (passes_at (λ m. not (private_at t.local m))) (sym found) ∙ seen_of_part t.local net part p ∙ is in
               record { place = k; within = there.0; point = there.1; other = not_back (private_at t.local k) other }
         ] refl
 
@@ -264,7 +267,7 @@ module _ (t : TakenView) (h : HasTaken t) where
         let x = place_of_seen p g.from in
         let y = place_of_seen q g.to in
         let path : HasPath (is_in (reverse t.order)) (arcs_in t.local) p q =
-        (g.inner, subst (λ arcs. IsPath arcs p q g.inner) (sym (arcs_of_net t.local net e)) g.path, through_taken g.inner g.privately) in
+        (g.inner, subst (λ arcs. IsPath arcs p q g.inner) (sym part.arcs) g.path, through_taken g.inner g.privately) in
         record {
           start = x.place;
           end = y.place;
@@ -323,5 +326,9 @@ module _ (t : TakenView) (h : HasTaken t) where
     private = h.private;
     once = h.once;
     whole = whole;
-    sums_up = λ net valid e. rows_sum_up whole net e;
+    clear = none_fails t.local (reverse t.order) h.none_below;
+    none_below = none_below_through (is_in (reverse t.order)) (is_private_in t.local)
+        (λ p. same_answer (is_in (reverse t.order) p) (is_private_in t.local p) (taken_private t h p) (whole p)) (arcs_in t.local) h.none_below;
+    part_sums_up = λ net valid part. rows_sum_up whole net part;
+    sums_up = λ net valid e. rows_sum_up whole net (has_part t.local net e);
   }

@@ -1,24 +1,20 @@
--- The fields of private bounds.
---   room-between                         two different places have room
+-- What contracts see of private bounds.
 --   rises-from_pairs, pairs-from_rises   lists that rise, in two forms
---   bound_same, bounds_same              equal fields give equal bounds
---   bounds_of                            private bounds of some fields
-use Rattle.std.proofs.Common.{◌≡◌, ◌≢◌, ℕ, ◌<◌, List, length, Option, Some, None, Bool, true, false, ◌||◌, Vec, Global, refl, sym, ap, ◌∙◌, subst, arith}
+--   upto-at                              a value of a map written out
+--   cell_is, cell_found                  the cell between two places, and between two points
+--   view_same                            equal fields are seen as equal
+use Rattle.std.proofs.Common.{zero, suc, ◌≡◌, ◌≢◌, ℕ, ◌<◌, List, [], ◌∷◌, ◌++◌, length, Option, Some, None, Bool, true, false, ◌||◌, refl, sym, ap, ◌∙◌, subst, arith}
+use Rattle.std.proofs.Common.{inl, inr}
 use Rattle.std.specs.Prelude.{slice_index_or, if◌then◌else◌}
 use Rattle.std.specs.List.{AllPairs}
-use Rattle.std.proofs.lemmas.Bool.Decides.{nat_tests}
-use Rattle.std.proofs.lemmas.List.{get_or_default}
-use Rattle.dist_rows.specs.declared.matrix.MatrixRows.{MatrixRows}
-use Rattle.dist_rows.specs.Matrix.{in_room, cell_at}
-use Rattle.elim_step.specs.Eliminated.{weight_at}
-use Rattle.private_elim.specs.declared.back.PrivateBounds.{PrivateBounds}
+use Rattle.std.proofs.lemmas.Bool.{cases_eq}
+use Rattle.std.proofs.lemmas.List.{get_or_default, get_or_append_left}
+use Rattle.std.proofs.Math.Seq.{get_or-append_seam}
+use Rattle.std.proofs.lemmas.List.{length-append}
+use Rattle.dist_rows.specs.declared.cell.Cell.{Cell}
+use Rattle.private_elim.specs.Backs.{upto, BoundsView, private_cells, bounds_view, cell_in}
 use Rattle.private_elim.specs.Locals.{place_in}
-use Rattle.private_elim.specs.Backs.{bound_by_place, bound_between}
 use Rattle.private_elim.proofs.locals.Places.{Rises}
-
--- two different places have room
-pub room-between : (n p q : ℕ) → p < n → q < n → p ≢ q → in_room n p q ≡ true
-room-between n p q lp lq apart = grind (arith, nat_tests)
 
 -- lists that rise, in two forms
 pub rises-from_pairs : (xs : List ℕ) → AllPairs (λ p q. p < q) xs → Rises xs
@@ -31,29 +27,33 @@ pairs-from_rises xs h i j d lt within =
     let less = h i j lt within in
     omega arith
 
--- equal fields give equal bounds
-bound_same : (a b : PrivateBounds) → a.private.items ≡ b.private.items
-    → ((p q : ℕ) → cell_at a.finals.size a.finals.slots.items p q ≡ cell_at b.finals.size b.finals.slots.items p q)
-    → (o u : Option ℕ) → bound_by_place a o u ≡ bound_by_place b o u
-bound_same a b flags cells None u = refl
-bound_same a b flags cells (Some p) None = refl
-bound_same a b flags cells (Some p) (Some q) =
-    (λ t. if slice_index_or (flags t) p false || slice_index_or (flags t) q false then weight_at (cells p q t) else None)
+-- a map written out
+upto-length : {X : Type 0} (f : ℕ → X) (n : ℕ) → length (upto f n) ≡ n
+upto-length f zero = refl
+upto-length f (suc n) = omega (arith, length-append (upto f n) (f n ∷ []), upto-length f n)
 
-pub bounds_same : (a b : PrivateBounds) → a.points.items ≡ b.points.items → a.private.items ≡ b.private.items
-    → ((p q : ℕ) → cell_at a.finals.size a.finals.slots.items p q ≡ cell_at b.finals.size b.finals.slots.items p q)
-    → (i j : ℕ) → bound_between a i j ≡ bound_between b i j
-bounds_same a b points flags cells i j =
-    ap (λ ps. bound_by_place a (place_in ps i) (place_in ps j)) points ∙ bound_same a b flags cells (place_in b.points.items i) (place_in b.points.items j)
+pub upto-at : {X : Type 0} (f : ℕ → X) (n k : ℕ) (d : X) → k < n → slice_index_or (upto f n) k d ≡ f k
+upto-at f zero k d lt = absurd (omega arith)
+upto-at f (suc n) k d lt = elim (cases_eq k n) [
+  | inl same ↦ ap (λ m. slice_index_or (upto f n ++ f n ∷ []) m d) (same ∙ sym (upto-length f n)) ∙ get_or-append_seam (upto f n) (f n) [] d ∙ ap f (sym same)
+  | inr apart ↦ (let low : k < n = omega arith in let many = upto-length f n in
+      get_or_append_left (upto f n) (f n ∷ []) d k (omega arith) ∙ upto-at f n k d low)
+]
 
--- private bounds of these fields, which speak of a list of points that rises
-abbrev pub bounds_of : (points : Vec ℕ Global) (private : Vec Bool Global) (finals : MatrixRows) (xs : List ℕ)
-    → points.items ≡ xs → AllPairs (λ p q. p < q) xs → length private.items ≡ length xs → finals.size ≡ length xs → PrivateBounds
-bounds_of points private finals xs same rising one_each square = record {
-  points = points;
-  private = private;
-  finals = finals;
-  square = square ∙ sym (ap length same);
-  one_each = one_each ∙ sym (ap length same);
-  rising = subst (AllPairs (λ p q. p < q)) (sym same) rising;
-}
+-- the cell between two places
+pub cell_is : (points : List ℕ) (private : List Bool) (at : ℕ → ℕ → Option Cell) (p q : ℕ) → p < length points → q < length points
+    → cell_in (bounds_view points private at) (Some p) (Some q) ≡ private_cells private at p q
+cell_is points private at p q lp lq =
+    ap (λ r. slice_index_or r q None) (upto-at (λ p. upto (private_cells private at p) (length points)) (length points) p [] lp)
+    ∙ upto-at (private_cells private at p) (length points) q None lq
+
+-- and between two points
+pub cell_found : (points : List ℕ) (private : List Bool) (at : ℕ → ℕ → Option Cell) (i j p q : ℕ) → place_in points i ≡ Some p → place_in points j ≡ Some q
+    → p < length points → q < length points
+    → cell_in (bounds_view points private at) (place_in points i) (place_in points j) ≡ private_cells private at p q
+cell_found points private at i j p q from to lp lq = (λ k. cell_in (bounds_view points private at) (from k) (to k)) ∙ cell_is points private at p q lp lq
+
+-- equal fields are seen as equal
+pub view_same : (points points' : List ℕ) (private private' : List Bool) (at at' : ℕ → ℕ → Option Cell) → points ≡ points' → private ≡ private'
+    → ((p q : ℕ) → at p q ≡ at' p q) → bounds_view points private at ≡ bounds_view points' private' at'
+view_same points points' private private' at at' same flags cells = (λ t. bounds_view (same t) (flags t) (λ p q. cells p q t))

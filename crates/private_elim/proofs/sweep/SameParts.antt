@@ -14,7 +14,7 @@ use Rattle.elim_step.specs.declared.summary.SummaryEntry.{SummaryEntry}
 use Rattle.private_elim.specs.Laws.{IsSamePart, AreSwept}
 use Rattle.private_elim.specs.Locals.{points_of, arcs_in, is_private_in}
 use Rattle.private_elim.specs.ReducedViews.{ReducedView}
-use Rattle.private_elim.specs.Reductions.{HasPart}
+use Rattle.private_elim.specs.Parts.{HasPart}
 use Rattle.private_elim.specs.Backs.{IsPrivatePair, HoldsFinals, IsLeastIn}
 
 module _ (r s : ReducedView) (same : IsSamePart r s) where

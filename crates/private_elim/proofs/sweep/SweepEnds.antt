@@ -22,23 +22,22 @@ use Rattle.stn_walk.proofs.Joins.{is_in-reverse, before_both-from_order}
 use Rattle.stn_walk.proofs.Distances.{bound_inner_least, inner_least_bound, network_bound_there, network_ends}
 use Rattle.stn_walk.proofs.Eliminations.{before-in}
 use Rattle.dist_rows.specs.declared.cell.Cell.{Cell}
-use Rattle.dist_rows.specs.Matrix.{cell_at}
 use Rattle.elim_step.specs.declared.summary.SummaryEntry.{SummaryEntry}
 use Rattle.elim_step.specs.Summaries.{is_summary}
 use Rattle.elim_step.specs.Eliminates.{remains}
 use Rattle.elim_step.specs.Eliminated.{weight_at, point_at}
-use Rattle.private_elim.specs.declared.back.PrivateBounds.{PrivateBounds}
 use Rattle.private_elim.specs.Locals.{LocalView, arcs_in, place_in, private_at, passes_at, is_private_in}
 use Rattle.private_elim.specs.Taken.{IsTaken}
-use Rattle.private_elim.specs.ReducedViews.{entry_in}
-use Rattle.private_elim.specs.Reductions.{HasPart}
-use Rattle.private_elim.specs.Backs.{bound_by_place, bound_between, IsPrivatePair, HoldsFinals, IsLeastIn}
+use Rattle.elim_step.specs.Summaries.{entry_in}
+use Rattle.private_elim.specs.Parts.{HasPart}
+use Rattle.private_elim.specs.Backs.{BoundsView, private_cells, bounds_view, cell_in, bound_between, IsPrivatePair, HoldsFinals, IsLeastIn}
 use Rattle.private_elim.specs.Sweeps.{HasGiven, IsSwept}
 use Rattle.private_elim.proofs.locals.Places.{place_found, place_contained}
 use Rattle.private_elim.proofs.locals.Owned.{points_below}
 use Rattle.private_elim.proofs.locals.LocalFacts.{place_of_point_at, arc_joins}
 use Rattle.private_elim.proofs.locals.PartNetworks.{private_of_part, seen_of_part}
 use Rattle.private_elim.proofs.summary.Entries.{entry_light}
+use Rattle.private_elim.proofs.sweep.Bounds.{cell_is}
 use Rattle.private_elim.proofs.sweep.SweepParts.{order_private}
 use Rattle.private_elim.proofs.taking.Takes.{private_at_is}
 
@@ -158,14 +157,14 @@ module _ (v : LocalView) (order : List ℕ) (f : ℕ → ℕ → Option Cell) (j
       }
 
   -- after the last
-  module _ (entries summary : List SummaryEntry) (b : PrivateBounds) (same : b.points.items ≡ v.points)
-      (flags : (p : ℕ) → p < length v.points → slice_index_or b.private.items p false ≡ private_at v p)
-      (done : List Bool) (s : IsSwept v order entries 0 (cell_at b.finals.size b.finals.slots.items) done) where
-    abbrev at : ℕ → ℕ → Option Cell
-    at = cell_at b.finals.size b.finals.slots.items
+  module _ (entries summary : List SummaryEntry) (points : List ℕ) (private : List Bool) (at : ℕ → ℕ → Option Cell) (same : points ≡ v.points)
+      (flags : (p : ℕ) → p < length v.points → slice_index_or private p false ≡ private_at v p)
+      (done : List Bool) (s : IsSwept v order entries 0 at done) where
+    abbrev b : BoundsView
+    b = bounds_view points private at
 
     private_pair : (p q : ℕ) → p < length v.points → q < length v.points
-        → (slice_index_or b.private.items p false || slice_index_or b.private.items q false) ≡ (private_at v p || private_at v q)
+        → (slice_index_or private p false || slice_index_or private q false) ≡ (private_at v p || private_at v q)
     private_pair p q lp lq = (λ i. flags p lp i || flags q lq i)
 
     private_points : (p q : ℕ) → p < length v.points → q < length v.points
@@ -177,19 +176,23 @@ module _ (v : LocalView) (order : List ℕ) (f : ℕ → ℕ → Option Cell) (j
     some_weight None h = h
     some_weight (Some c) h = refl
 
-    only_places : (p q : ℕ) → p < length v.points → q < length v.points → is_some (bound_by_place b (Some p) (Some q)) ≡ true
+    -- the cell between two places
+    cell_at : (p q : ℕ) → p < length v.points → q < length v.points → cell_in b (Some p) (Some q) ≡ private_cells private at p q
+    cell_at p q lp lq = let many : length points ≡ length v.points = ap length same in cell_is points private at p q (omega arith) (omega arith)
+
+    only_places : (p q : ℕ) → p < length v.points → q < length v.points → is_some (weight_at (private_cells private at p q)) ≡ true
         → IsPrivatePair (record { local = v; order = order; summary = summary }) (point_at v.points p) (point_at v.points q)
     only_places p q lp lq some =
-        let flagged = slice_index_or b.private.items p false || slice_index_or b.private.items q false in
-        elim flagged as (λ c. flagged ≡ c → is_some (if c then weight_at (at p q) else None) ≡ true
+        let flagged = slice_index_or private p false || slice_index_or private q false in
+        elim flagged as (λ c. flagged ≡ c → is_some (weight_at (if c then at p q else None)) ≡ true
         → IsPrivatePair (record { local = v; order = order; summary = summary }) (point_at v.points p) (point_at v.points q)) [
           | true ↦ λ is there.
-              let private = sym (private_pair p q lp lq) ∙ is in
-              record { joined = s.pairs p q (some_weight (at p q) there) private; private = private_points p q lp lq ∙ private }
+              let owned = sym (private_pair p q lp lq) ∙ is in
+              record { joined = s.pairs p q (some_weight (at p q) there) owned; private = private_points p q lp lq ∙ owned }
           | false ↦ λ is there. absurd (false≢true there)
         ] refl some
 
-    only_at : (i j : ℕ) (o u : Option ℕ) → place_in v.points i ≡ o → place_in v.points j ≡ u → is_some (bound_by_place b o u) ≡ true
+    only_at : (i j : ℕ) (o u : Option ℕ) → place_in v.points i ≡ o → place_in v.points j ≡ u → is_some (weight_at (cell_in b o u)) ≡ true
         → IsPrivatePair (record { local = v; order = order; summary = summary }) i j
     only_at i j None u first second some = absurd (false≢true some)
     only_at i j (Some p) None first second some = absurd (false≢true some)
@@ -197,12 +200,13 @@ module _ (v : LocalView) (order : List ℕ) (f : ℕ → ℕ → Option Cell) (j
         let from = place_found v.points i p first in
         let to = place_found v.points j q second in
         subst (λ x. IsPrivatePair (record { local = v; order = order; summary = summary }) x j) from.1
-        (subst (IsPrivatePair (record { local = v; order = order; summary = summary }) (point_at v.points p)) to.1 (only_places p q from.0 to.0 some))
+        (subst (IsPrivatePair (record { local = v; order = order; summary = summary }) (point_at v.points p)) to.1
+        (only_places p q from.0 to.0 (ap (λ c. is_some (weight_at c)) (sym (cell_at p q from.0 to.0)) ∙ some)))
 
     pub swept_only : (i j : ℕ) → is_some (bound_between b i j) ≡ true → IsPrivatePair (record { local = v; order = order; summary = summary }) i j
     swept_only i j some =
         only_at i j (place_in v.points i) (place_in v.points j) refl refl
-        (sym (ap (λ ps. is_some (bound_by_place b (place_in ps i) (place_in ps j))) same) ∙ some)
+        (sym (ap (λ ps. is_some (weight_at (cell_in b (place_in ps i) (place_in ps j)))) same) ∙ some)
 
     -- all places are done
     all_done : (p : ℕ) → p < length v.points → remains done p ≡ true
@@ -231,12 +235,12 @@ module _ (v : LocalView) (order : List ℕ) (f : ℕ → ℕ → Option Cell) (j
         let to = placed j ends.1 in
         let p = from.0 in
         let q = to.0 in
-        let private : (private_at v p || private_at v q) ≡ true =
+        let owned : (private_at v p || private_at v q) ≡ true =
         sym (private_points p q from.1 to.1) ∙ (λ k. is_private_in v (from.2 k) || is_private_in v (to.2 k)) ∙ pair.private in
         let bound : bound_between b i j ≡ weight_at (at p q) =
-        ap (λ ps. bound_by_place b (place_in ps i) (place_in ps j)) same
-        ∙ (λ k. bound_by_place b (from.3 k) (to.3 k))
-        ∙ ap (λ c. if c then weight_at (at p q) else None) (private_pair p q from.1 to.1 ∙ private) in
+        ap (λ ps. weight_at (cell_in b (place_in ps i) (place_in ps j))) same
+        ∙ (λ k. weight_at (cell_in b (from.3 k) (to.3 k)))
+        ∙ ap weight_at (cell_at p q from.1 to.1 ∙ ap (λ c. if c then at p q else None) (private_pair p q from.1 to.1 ∙ owned)) in
         let low_i : i < point_count net = subst (λ x. x < point_count net) from.2 (below_count net part p from.1) in
         let low_j : j < point_count net = subst (λ x. x < point_count net) to.2 (below_count net part q to.1) in
         let joined_places : IsJoined (arcs_in v) order (point_at v.points p) (point_at v.points q) =

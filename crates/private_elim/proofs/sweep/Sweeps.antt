@@ -30,7 +30,7 @@ use Rattle.elim_step.specs.Revisits.{reach_of, out_sum, in_sum, IsLeastSum, Revi
 use Rattle.elim_step.proofs.FinalWeights.{Prepared, finals_are_least}
 use Rattle.private_elim.specs.Locals.{LocalView, arcs_in, private_at, is_private_in}
 use Rattle.private_elim.specs.Taken.{IsTaken}
-use Rattle.private_elim.specs.Reductions.{HasPart}
+use Rattle.private_elim.specs.Parts.{HasPart}
 use Rattle.private_elim.specs.Backs.{HoldsFinals}
 use Rattle.private_elim.specs.Sweeps.{IsSwept}
 use Rattle.private_elim.proofs.locals.Places.{place_nowhere}

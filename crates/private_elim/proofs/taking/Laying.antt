@@ -15,16 +15,15 @@ use Rattle.stn_walk.specs.Joins.{has_edge}
 use Rattle.dist_rows.specs.declared.cell.Cell.{Cell}
 use Rattle.dist_rows.specs.declared.cell.Via.TheVariants.{Given}
 use Rattle.dist_rows.specs.Cells as cells
-use Rattle.dist_rows.specs.Matrix.{in_room}
 use Rattle.elim_step.specs.Eliminates.{remains}
 use Rattle.elim_step.specs.Eliminated.{weight_at, point_at}
 use Rattle.private_elim.specs.Locals.{LocalView, IsLocal, arcs_in, local_arc_at, place_in, all_numbered}
-use Rattle.private_elim.specs.Origins.{IsArcOf}
+use Rattle.elim_step.specs.Origins.{IsArcOf, IsArcLeaf, HasOrigins}
 use Rattle.private_elim.specs.Laid.{IsLaid, IsLaidArc}
 use Rattle.private_elim.specs.Taken.{IsTaken}
 use Rattle.private_elim.proofs.locals.LocalFacts.{arc_joins, arc_in_at}
 use Rattle.private_elim.proofs.locals.Places.{place_found, place_missing, place_contained}
-use Rattle.private_elim.proofs.taking.OriginFacts.{origins_start}
+use Rattle.elim_step.proofs.OriginFacts.{origins_none, origins_lowered}
 use Rattle.private_elim.proofs.taking.Takes.{local_ground}
 
 -- the lesser of two does not depend on their order
@@ -218,46 +217,21 @@ module _ (v : LocalView) (h : IsLocal v) (n : ℕ) (lt : n < length v.arcs) (at 
       ∙ (λ t. has_edge (take n (arcs_in v)) x y || (goes a x y || (start_test j lj t && end_test i li t)))
       ∙ sym (has_edge-push (take n (arcs_in v)) a x y) ∙ ap (λ xs. has_edge xs x y) (sym one_more)
 
-  -- a cell of this arc, or an old one
-  laid_origin : (o : Option Cell) (c : Cell) → c.via ≡ Given n → c.weight ≡ (local_arc_at v.arcs n).arc.bound
-      → IfSome o (λ c. (m : ℕ) × (c.via ≡ Given m) × IsArcOf v.points (arcs_in v) arc.start arc.end c m)
-      → IfSome (cells.lesser o c) (λ c. (m : ℕ) × (c.via ≡ Given m) × IsArcOf v.points (arcs_in v) arc.start arc.end c m)
-  laid_origin o c via weight old = by o old where
-    e : arc_at (arcs_in v) n ≡ (local_arc_at v.arcs n).arc
-    e = arc_in_at v n lt
-
-    new : (m : ℕ) × (c.via ≡ Given m) × IsArcOf v.points (arcs_in v) arc.start arc.end c m
-    new = (
-      n,
-      via,
+  -- a cell of this arc comes from it
+  laid_leaf : IsArcOf v.points (arcs_in v) arc.start arc.end (record { weight = (local_arc_at v.arcs n).arc.bound; via = Given n }) n
+  laid_leaf =
+      let e : arc_at (arcs_in v) n ≡ (local_arc_at v.arcs n).arc = arc_in_at v n lt in
       record {
         within = in_range;
         starts = ap (λ (a : Constraint). a.from.0) e ∙ sym found_start.1;
         ends = ap (λ (a : Constraint). a.to.0) e ∙ sym found_end.1;
-        weighs = ap (λ (a : Constraint). a.bound) e ∙ sym weight;
-      },
-    )
+        weighs = ap (λ (a : Constraint). a.bound) e;
+      }
 
-    by : (o : Option Cell) → IfSome o (λ c. (m : ℕ) × (c.via ≡ Given m) × IsArcOf v.points (arcs_in v) arc.start arc.end c m)
-        → IfSome (cells.lesser o c) (λ c. (m : ℕ) × (c.via ≡ Given m) × IsArcOf v.points (arcs_in v) arc.start arc.end c m)
-    by None old = new
-    by (Some x) old =
-        elim (int_lt c.weight x.weight) as
-        (λ b. IfSome (if b then Some c else Some x) (λ c. (m : ℕ) × (c.via ≡ Given m) × IsArcOf v.points (arcs_in v) arc.start arc.end c m))
-        [ true ↦ new | false ↦ old ]
-
-  laid_origins : (p q : ℕ) → IfSome (after p q) (λ c. (m : ℕ) × (c.via ≡ Given m) × IsArcOf v.points (arcs_in v) p q c m)
-  laid_origins p q =
-      let c : Cell = record { weight = (local_arc_at v.arcs n).arc.bound; via = Given n } in
-      rw (arc.cells p q) (elim ((p == arc.start) && (q == arc.end)) as (λ b. ((p == arc.start) && (q == arc.end)) ≡ b
-      → IfSome (if b then cells.lesser (at arc.start arc.end) c else at p q) (λ c. (m : ℕ) × (c.via ≡ Given m) × IsArcOf v.points (arcs_in v) p q c m)) [
-        | true ↦ λ t.
-            let b = and_parts (p == arc.start) (q == arc.end) t in
-            let ep : p ≡ arc.start = (let e = b.0 in grind (arith, nat_tests)) in
-            let eq : q ≡ arc.end = (let e = b.1 in grind (arith, nat_tests)) in
-            rw (ep, eq) (laid_origin (at arc.start arc.end) c refl refl (was.origins arc.start arc.end))
-        | false ↦ λ t. was.origins p q
-      ] refl)
+  laid_origins : HasOrigins (IsArcLeaf v.points (arcs_in v)) v.points [] after
+  laid_origins =
+      origins_lowered (IsArcLeaf v.points (arcs_in v)) v.points [] at after was.origins arc.start arc.end refl refl
+      (record { weight = (local_arc_at v.arcs n).arc.bound; via = Given n }) arc.cells refl laid_leaf
 
   pub laid_more : IsLaid v (n + 1) after joined'
   laid_more = record { cells = laid_cells; joins = laid_joins; origins = laid_origins }
@@ -267,7 +241,7 @@ pub laid_none : (v : LocalView) (at : ℕ → ℕ → Option Cell) (joined : ℕ
 laid_none v at joined empty apart = record {
   cells = λ i j li lj ij. ap weight_at (empty i j);
   joins = λ i j li lj ij. apart i j;
-  origins = λ p q. rw (empty p q) tt;
+  origins = origins_none (IsArcLeaf v.points (arcs_in v)) v.points [] at empty;
 }
 
 -- no arc alone is a closed walk
@@ -299,7 +273,7 @@ taken_none v h numbered at joined remain laid alone all =
         remaining = λ k lk. ap (λ xs. remains xs k) all ∙ remains-all (length v.points) k lk;
         len = ap length all ∙ length-replicate (length v.points) true;
       };
-      origins = origins_start v.points (arcs_in v) at laid.origins;
+      origins = laid.origins;
       joins = λ i j li lj ij. laid.joins i j li lj ij ∙ ap (λ xs. has_edge xs (point_at v.points i) (point_at v.points j)) whole;
       alone = alone;
     }
@@ -315,10 +289,6 @@ ends_apart v h k lt s e is_s is_e same =
     (sym (place_found v.points (local_arc_at v.arcs k).arc.from.0 s is_s).1 ∙ ap (point_at v.points) same
     ∙ (place_found v.points (local_arc_at v.arcs k).arc.to.0 e is_e).1)
 
--- two places below the size have room
-pub matrix_room : (n p q : ℕ) → p < n → q < n → p ≢ q → in_room n p q ≡ true
-matrix_room n p q lp lq apart = grind (arith, nat_tests)
-
 -- the range of an arc's bound
 pub bound_range : (v : LocalView) → IsLocal v → (k : ℕ) → k < length v.arcs
     → (neg_ℤ (pos greatest_bound) ≤ℤ (local_arc_at v.arcs k).arc.bound) × ((local_arc_at v.arcs k).arc.bound ≤ℤ pos greatest_bound)
@@ -332,3 +302,8 @@ bound_range v h k lt =
 pub lowered_weight : (s e n : ℕ) (w x : ℤ) (at : ℕ → ℕ → Option Cell) → w ≡ x → (p q : ℕ)
     → cells.lowered s e (record { weight = w; via = Given n }) at p q ≡ cells.lowered s e (record { weight = x; via = Given n }) at p q
 lowered_weight s e n w x at same p q = ap (λ (w : ℤ). cells.lowered s e (record { weight = w; via = Given n }) at p q) same
+
+-- over equal cells
+pub lowered_same : (s e : ℕ) (c : Cell) (at at' : ℕ → ℕ → Option Cell) → ((p q : ℕ) → at p q ≡ at' p q)
+    → (p q : ℕ) → cells.lowered s e c at p q ≡ cells.lowered s e c at' p q
+lowered_same s e c at at' same p q = (λ t. cells.lowered s e c (λ p q. same p q t) p q)

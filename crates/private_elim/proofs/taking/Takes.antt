@@ -28,7 +28,8 @@ use Rattle.private_elim.specs.Locals.{LocalView, IsLocal, arcs_in, is_private_in
 use Rattle.private_elim.specs.Taken.{IsTaken, Fails, StopsAt, NoneFails, HasTaken}
 use Rattle.private_elim.proofs.locals.LocalFacts.{rises, points_small, arc_joins, place_of_point_at}
 use Rattle.private_elim.proofs.locals.Places.{place_contained, place_found}
-use Rattle.private_elim.proofs.taking.OriginFacts.{origins_kept}
+use Rattle.elim_step.specs.Origins.{IsArcLeaf}
+use Rattle.elim_step.proofs.OriginFacts.{origins_kept}
 
 -- two places with the same point are one
 rising_apart : (points : List ℕ) → ((i j : ℕ) → i < j → j < length points → point_at points i < point_at points j) → (i j : ℕ) → i < length points
@@ -71,7 +72,7 @@ taken_more v order at after joined joined' remain k h lk private fresh clear cha
           (λ m lm e. absurd (let there = is_in-at order m lm in let turn = is_in-reverse order x in
           let f : is_in order (get_or order m 0) ≡ is_in order x = ap (is_in order) e in cc));
       cells = rw turned (eliminates_more v.points (arcs_in v) ground (reverse order) at remain h.cells k lk fresh after changed clear);
-      origins = rw turned (origins_kept v.points (arcs_in v) (reverse order) at after remain k lk fresh h.cells.remaining h.origins changed);
+      origins = rw turned (origins_kept (IsArcLeaf v.points (arcs_in v)) v.points (reverse order) at after remain k lk fresh h.cells.remaining h.origins changed);
       joins = rw turned (joined-after (arcs_in v) v.points
           (reverse order) remain k joined joined' ground.apart h.joins h.cells.remaining h.alone lk fresh joins);
       alone = λ i. joins i i ∙ (let same : (i == i) ≡ true = grind (arith, nat_tests) in rw (h.alone i, same) refl);

@@ -14,11 +14,14 @@ use Rattle.elim_step.specs.declared.summary.SummaryEntry.{SummaryEntry}
 use Rattle.elim_step.specs.Eliminated.{forward_of, point_at}
 use Rattle.private_elim.specs.Locals.{local_of, arcs_in, place_in, private_at, passes_at, horizon_in}
 use Rattle.elim_step.specs.Summaries.{entry_of}
-use Rattle.private_elim.specs.ReducedViews.{ReducedView, IsReduced, entry_in, first_there, weight_between, IsWeightBetween}
+use Rattle.elim_step.specs.Summaries.{entry_in}
+use Rattle.private_elim.specs.ReducedViews.{ReducedView, IsReduced, first_there, weight_between, IsWeightBetween}
 use Rattle.private_elim.specs.Taken.{TakenView, HasTaken}
 use Rattle.private_elim.specs.SummaryRows.{is_pair_at, forward_at, entry_at, is_over}
 use Rattle.private_elim.proofs.locals.LocalFacts.{numbered-is, seen_of_net}
 use Rattle.private_elim.proofs.taking.TakenFacts.{forward_least, inner_weight, none_from_strange, none_to_strange}
+use Rattle.private_elim.specs.Parts.{HasPart}
+use Rattle.private_elim.proofs.locals.PartNetworks.{has_part}
 use Rattle.private_elim.proofs.summary.SumsUp.{points_apart, pair_is, pair_passes, seen_pair, entry_is, places_of_pair}
 use Rattle.private_elim.proofs.summary.EntryLookups.{found_holds, found_some, entry_unique}
 
@@ -43,6 +46,9 @@ module _ (t : TakenView) (h : HasTaken t) (summary : List SummaryEntry) (r : IsR
   is_local : t.local ≡ local_of h.known.net t.local.agent
   is_local = numbered-is t.local h.known h.numbered
 
+  part_is : HasPart h.known.net t.local
+  part_is = has_part t.local h.known.net is_local
+
   sums : IsSummary h.known.net t.local.agent (map entry_of summary)
   sums = r.sums_up h.known.net h.known.valid is_local
 
@@ -56,13 +62,13 @@ module _ (t : TakenView) (h : HasTaken t) (summary : List SummaryEntry) (r : IsR
       let x = point_at t.local.points a in
       let y = point_at t.local.points b in
       let pair = pair_is t h a b la lb is in
-      let seen = seen_pair t h r.whole h.known.net is_local a b la lb pair in
+      let seen = seen_pair t h r.whole h.known.net part_is a b la lb pair in
       let there = sums.whole x y seen in
       elim (entry_in summary x y) as (λ o. entry_in summary x y ≡ o → o ≡ Some (entry_at t a b).weight) [
         | None ↦ λ none. absurd (false≢true (ap is_some (sym none) ∙ found_some summary x y there.0 there.1))
         | Some w ↦ λ found.
             ap Some (entry_unique h.known.net t.local.agent x y w (entry_at t a b).weight (found_entry x y w found).1
-            (entry_is t h r.whole h.known.net is_local a b la lb pair))
+            (entry_is t h r.whole h.known.net part_is a b la lb pair))
       ] refl
 
   -- the place of a point is unique
@@ -78,7 +84,7 @@ module _ (t : TakenView) (h : HasTaken t) (summary : List SummaryEntry) (r : IsR
       elim (entry_in summary x y) as (λ o. entry_in summary x y ≡ o → o ≡ None) [
         | None ↦ λ none. refl
         | Some w ↦ λ found.
-            let at = places_of_pair t h r.whole h.known.net is_local x y (found_entry x y w found).0 in
+            let at = places_of_pair t h r.whole h.known.net part_is x y (found_entry x y w found).0 in
             let start = same_place at.start a at.start_in la at.is_start in
             let end = same_place at.end b at.end_in lb at.is_end in
             absurd (false≢true (sym other ∙ (λ k. is_pair_at t (sym start k) (sym end k)) ∙ pair_passes t h at.start at.end at.start_in at.end_in at.pair))

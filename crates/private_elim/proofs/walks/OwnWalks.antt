@@ -10,7 +10,7 @@ use Rattle.stn_model.specs.Kinds.{is_own}
 use Rattle.stn_model.specs.ArcWalks.{GoesOn, IsInner, IsInnerLeast}
 use Rattle.stn_walk.proofs.PrivateArcs.{own_contained, own_listed, own_from_private, own_to_private}
 use Rattle.private_elim.specs.Locals.{LocalView, arcs_in, is_private_in}
-use Rattle.private_elim.specs.Reductions.{HasPart}
+use Rattle.private_elim.specs.Parts.{HasPart}
 use Rattle.private_elim.proofs.locals.PartNetworks.{private_of_part}
 
 -- a walk over a list is one over each list that has its arcs

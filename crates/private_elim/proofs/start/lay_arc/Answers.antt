@@ -1,39 +1,42 @@
 use Rattle.std.proofs.Common.{◌≡◌, ap, sym, ◌∙◌, arith}
-use Rattle.dist_rows.specs.Matrix.{cell_at}
+use Rattle.dist_rows.specs.declared.cell.Via.TheVariants.{Given}
 use Rattle.private_elim.specs.declared.local.LocalArc.{LocalArc}
 use Rattle.private_elim.specs.Locals.{local_arc_at}
 use Rattle.private_elim.proofs.locals.Places.{place_found}
-use Rattle.private_elim.proofs.taking.Laying.{from_placed, to_placed, ends_apart, matrix_room, bound_range, lowered_weight}
+use Rattle.private_elim.proofs.taking.Laying.{from_placed, to_placed, ends_apart, bound_range, lowered_weight, lowered_same}
 use Rattle.std.proofs.lemmas.Int.{ints}
 use Rattle.private_elim.proofs.start.lay_arc.Goals as goal
 
 pub unreachable-requires : goal.unreachable-requires
-unreachable-requires c =
+unreachable-requires g c =
     from_placed c.args.local.now c.size-places.ensures.valid c.args.k c.requires.within (rw c.arc.ensures at (sym c.place_of.ensures ∙ c.in_default.is))
 
 pub unreachable-requires-in_default-place_of : goal.unreachable-requires-in_default-place_of
-unreachable-requires-in_default-place_of c =
+unreachable-requires-in_default-place_of g c =
     to_placed c.args.local.now c.size-places.ensures.valid c.args.k c.requires.within
     (rw c.arc.ensures at (sym c.place_of-2.ensures ∙ c.in_default-place_of.is))
 
-pub lower-requires-clause-apart : goal.lower-requires-clause-apart
-lower-requires-clause-apart c =
+pub make_room-requires-clause-apart : goal.make_room-requires-clause-apart
+make_room-requires-clause-apart g c =
     ends_apart c.args.local.now c.size-places.ensures.valid c.args.k c.requires.within c.in-Some.from c.in-Some-place_of.to
     (rw c.arc.ensures at (sym c.place_of.ensures ∙ c.in-Some.is)) (rw c.arc.ensures at (sym c.place_of-2.ensures ∙ c.in-Some-place_of.is))
 
-pub lower-requires-clause-room : goal.lower-requires-clause-room
-lower-requires-clause-room c =
+pub lower-requires-clause-apart : goal.lower-requires-clause-apart
+lower-requires-clause-apart g c =
+    ends_apart c.args.local.now c.size-places.ensures.valid c.args.k c.requires.within c.in-Some.from c.in-Some-place_of.to
+    (rw c.arc.ensures at (sym c.place_of.ensures ∙ c.in-Some.is)) (rw c.arc.ensures at (sym c.place_of-2.ensures ∙ c.in-Some-place_of.is))
+
+pub make_room-requires-clause-within : goal.make_room-requires-clause-within
+make_room-requires-clause-within g c =
     let v = c.args.local.now in
     let s = (place_found v.points (local_arc_at v.arcs c.args.k).arc.from.0 c.in-Some.from (rw c.arc.ensures at (sym c.place_of.ensures ∙ c.in-Some.is))).0 in
     let e = (place_found v.points (local_arc_at v.arcs c.args.k).arc.to.0 c.in-Some-place_of.to
     (rw c.arc.ensures at (sym c.place_of-2.ensures ∙ c.in-Some-place_of.is))).0 in
     let size = c.requires.size in
-    matrix_room c.args.rows.now.size c.in-Some.from c.in-Some-place_of.to (omega arith) (omega arith)
-    (ends_apart v c.size-places.ensures.valid c.args.k c.requires.within c.in-Some.from c.in-Some-place_of.to
-    (rw c.arc.ensures at (sym c.place_of.ensures ∙ c.in-Some.is)) (rw c.arc.ensures at (sym c.place_of-2.ensures ∙ c.in-Some-place_of.is)))
+    (omega arith, omega arith)
 
 pub join-requires : goal.join-requires
-join-requires c =
+join-requires g c =
     let v = c.args.local.now in
     let s = (place_found v.points (local_arc_at v.arcs c.args.k).arc.from.0 c.in-Some.from (rw c.arc.ensures at (sym c.place_of.ensures ∙ c.in-Some.is))).0 in
     let e = (place_found v.points (local_arc_at v.arcs c.args.k).arc.to.0 c.in-Some-place_of.to
@@ -42,7 +45,7 @@ join-requires c =
     (omega arith, omega arith)
 
 pub returns-clause-arc : goal.returns-clause-arc
-returns-clause-arc c =
+returns-clause-arc g c =
     let v = c.args.local.now in
     let bound : c.arc.result.arc.bound ≡ (local_arc_at v.arcs c.args.k).arc.bound = ap (λ (a : LocalArc). a.arc.bound) c.arc.ensures in
     let range = bound_range v c.size-places.ensures.valid c.args.k c.requires.within in
@@ -55,6 +58,8 @@ returns-clause-arc c =
       is_end = (rw c.arc.ensures at (sym c.place_of-2.ensures ∙ c.in-Some-place_of.is));
       cells = λ p q. c.lower.ensures.cells p q
           ∙ lowered_weight c.in-Some.from c.in-Some-place_of.to c.args.k _ (local_arc_at v.arcs c.args.k).arc.bound
-          (cell_at c.args.rows.now.size c.args.rows.now.slots.items) (omega (arith, ints)) p q;
-      joins = c.join.ensures.pairs;
+          (g.R.Rows.at c.make_room.new.self) (omega (arith, ints)) p q
+          ∙ lowered_same c.in-Some.from c.in-Some-place_of.to (record { weight = (local_arc_at v.arcs c.args.k).arc.bound; via = Given c.args.k })
+          (g.R.Rows.at c.make_room.new.self) (g.R.Rows.at c.args.rows.now) c.make_room.ensures.cells p q;
+      joins = c.in_ok-join.ensures.pairs;
     }

@@ -2,7 +2,6 @@ use Rattle.std.proofs.Common.{◌&&◌, ap, sym, ◌∙◌, subst, map, arith}
 use Rattle.std.proofs.lemmas.List.{get_or_default}
 use Rattle.std.specs.Prelude.{reverse, not}
 use Rattle.stn_model.specs.declared.ids.PointId.{PointId}
-use Rattle.dist_rows.specs.Matrix.{cell_at}
 use Rattle.elim_step.specs.Eliminates.{remains, count_below}
 use Rattle.elim_step.specs.Eliminated.{point_at}
 use Rattle.elim_step.specs.JoinedPlaces.{is_joined}
@@ -11,7 +10,7 @@ use Rattle.private_elim.proofs.taking.DegreeFacts.{degree_is}
 use Rattle.private_elim.proofs.elimination.Elimination.candidate.Goals as goal
 
 pub returns : goal.returns
-returns c =
+returns g c =
     let e = c.self.inside in
     let v = e.local in
     let h = c.self.invariant in
@@ -27,5 +26,5 @@ returns c =
           c.index.ensures ∙ get_or_default e.degrees.items k c.index.result.now 0 (omega arith) ∙ h.degrees k left
           ∙ ap (count_below (λ q. remains e.remain.items q && is_joined e.joins k q)) h.joins_size in
           subst (IsDegree v (reverse order) (point_at v.points k)) (sym counted)
-          (degree_is v order (cell_at e.rows.size e.rows.slots.items) (is_joined e.joins) e.remain.items h.taken k within fresh);
+          (degree_is v order (g.R.Rows.at e.rows) (is_joined e.joins) e.remain.items h.taken k within fresh);
     })

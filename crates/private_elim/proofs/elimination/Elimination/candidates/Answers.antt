@@ -8,7 +8,7 @@ use Rattle.private_elim.proofs.taking.CandidateFacts.{numbers_more, degrees_more
 use Rattle.private_elim.proofs.elimination.Elimination.candidates.Goals as goal
 
 pub loop-place-preserved : goal.loop-place-preserved
-loop-place-preserved c =
+loop-place-preserved g c =
     let v = c.args.self.now.local in
     let taken = reverse c.args.self.now.order in
     let n = c.loop-place.place in

@@ -1,15 +1,14 @@
 use Rattle.std.proofs.Common.{◌≡◌, ◌&&◌, ap, sym, ◌∙◌, get_or, length}
-use Rattle.dist_rows.specs.Matrix.{cell_at}
 use Rattle.elim_step.specs.Eliminates.{count_below, remains}
 use Rattle.elim_step.specs.JoinedPlaces.{is_joined}
 use Rattle.private_elim.specs.Locals.{LocalView}
 use Rattle.private_elim.proofs.elimination.Elimination.copy.Goals as goal
 
 pub invariant_of-result : goal.invariant_of-result
-invariant_of-result c =
+invariant_of-result g c =
     let e = c.self.inside in
     let h = c.self.invariant in
-    let cells : cell_at c.in_ok-rows.rows.size c.in_ok-rows.rows.slots.items ≡ cell_at e.rows.size e.rows.slots.items =
+    let cells : g.R.Rows.at c.in_ok-rows.rows ≡ g.R.Rows.at e.rows =
     (λ t p q. c.in_ok-rows.ensures.cells p q t) in
     let joins : is_joined c.in_ok-joins.joins ≡ is_joined e.joins = (λ t p q. c.in_ok-joins.ensures.pairs p q t) in
     let size : c.in_ok-joins.joins.size ≡ e.joins.size = c.in_ok-joins.ensures.size in

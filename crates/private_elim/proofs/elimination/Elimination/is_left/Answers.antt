@@ -7,7 +7,7 @@ use Rattle.private_elim.proofs.taking.Takes.{private_at_is}
 use Rattle.private_elim.proofs.elimination.Elimination.is_left.Goals as goal
 
 pub returns-then-is_private : goal.returns-then-is_private
-returns-then-is_private c =
+returns-then-is_private g c =
     let h = c.self.invariant in
     let v = c.self.inside.local in
     let k = c.args.place in
@@ -19,7 +19,7 @@ returns-then-is_private c =
     (sym (private_at_is v h.taken.known k within ∙ sym c.is_private.ensures ∙ c.if-is_private.true)))
 
 pub returns-else-is_private : goal.returns-else-is_private
-returns-else-is_private c =
+returns-else-is_private g c =
     let h = c.self.invariant in
     let v = c.self.inside.local in
     let k = c.args.place in

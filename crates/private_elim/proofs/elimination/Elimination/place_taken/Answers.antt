@@ -19,7 +19,7 @@ private_number : (v : LocalView) (order : List ℕ) (n : ℕ) → AllByRecursion
 private_number v order n private lt = All-from_recursion (λ p. is_private_in v p ≡ true) order private n 0 lt
 
 pub unreachable-requires : goal.unreachable-requires
-unreachable-requires c =
+unreachable-requires g c =
     let e = c.self.inside in
     let within : c.args.n < length (map (λ p. p.0) e.order.items) = (rw (← c.self.view_is) at c.requires) in
     let at = number_at e.order.items c.args.n c.index.result.now (omega (arith, within, length-map e.order.items (λ p. p.0))) c.index.ensures in
@@ -27,11 +27,11 @@ unreachable-requires c =
     false≢true (ap (passes_at (private_at e.local)) c.in-None.ensures ∙ ap (is_private_in e.local) (sym at) ∙ private)
 
 pub returns-clause-within : goal.returns-clause-within
-returns-clause-within c =
+returns-clause-within g c =
     rw (← c.self.view_is) (place_found c.self.inside.local.points c.index.result.now.0 c.in-Some.place (sym c.in-Some.ensures)).0
 
 pub returns-clause-point : goal.returns-clause-point
-returns-clause-point c =
+returns-clause-point g c =
     let e = c.self.inside in
     let within : c.args.n < length (map (λ p. p.0) e.order.items) = (rw (← c.self.view_is) at c.requires) in
     let at = number_at e.order.items c.args.n c.index.result.now (omega (arith, within, length-map e.order.items (λ p. p.0))) c.index.ensures in

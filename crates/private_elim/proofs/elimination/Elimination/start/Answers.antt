@@ -1,7 +1,6 @@
 use Rattle.std.proofs.Common.{◌≡◌, true, [], ap, sym, ◌∙◌, arith, length}
 use Rattle.std.specs.Prelude.{replicate}
 use Rattle.std.proofs.lemmas.List.{length-replicate}
-use Rattle.dist_rows.specs.Matrix.{cell_at}
 use Rattle.elim_step.specs.JoinedPlaces.{is_joined}
 use Rattle.elim_step.proofs.JoinFacts.{joined-apart}
 use Rattle.private_elim.specs.Locals.{LocalView, IsLocal, all_numbered}
@@ -11,11 +10,11 @@ use Rattle.private_elim.proofs.taking.Laying.{taken_none}
 use Rattle.private_elim.proofs.elimination.Elimination.start.Goals as goal
 
 pub invariant_of-result : goal.invariant_of-result
-invariant_of-result c =
+invariant_of-result g c =
     let v = c.in_ok-local.local in
     let local : v ≡ c.args.local.now = c.in_ok-local.ensures in
     let known : IsLocal v = rw local c.size-size.ensures.valid in
-    let numbered : all_numbered v.arcs ≡ true = rw local c.requires in
+    let numbered : all_numbered v.arcs ≡ true = rw local c.requires.numbered in
     let size : c.size-size.result ≡ length v.points = c.size-size.ensures.count ∙ ap (λ (l : LocalView). length l.points) (sym local) in
     let joins_size : c.lay_arcs.new.joins.size ≡ length v.points = c.lay_arcs.ensures.joins_size ∙ c.in_ok-joins.ensures.size ∙ size in
     let all : c.in_ok-remain.remain.items ≡ replicate (length v.points) true =
@@ -23,11 +22,11 @@ invariant_of-result c =
     let rows = c.lay_arcs.new.rows in
     let joins = c.lay_arcs.new.joins in
     let many : length c.in_ok-remain.remain.items ≡ length v.points = ap length all ∙ length-replicate (length v.points) true in
-    let taken : IsTaken v [] (cell_at rows.size rows.slots.items) (is_joined joins) c.in_ok-remain.remain.items =
-    taken_none v known numbered (cell_at rows.size rows.slots.items) (is_joined joins) c.in_ok-remain.remain.items c.lay_arcs.ensures.laid
-    (joined-apart joins.size joins.bits.items) all in
+    let taken : IsTaken v [] (g.R.Rows.at rows) (is_joined joins) c.in_ok-remain.remain.items =
+    taken_none v known numbered (g.R.Rows.at rows) (is_joined joins) c.in_ok-remain.remain.items c.in_ok-lay_arcs.ensures.laid
+    (joined-apart joins) all in
     record {
-      square = c.lay_arcs.ensures.size ∙ c.in_ok-rows.ensures.size ∙ size;
+      square = c.lay_arcs.ensures.size ∙ c.requires.size ∙ ap (λ (l : LocalView). length l.points) (sym local);
       joins_size = joins_size;
       degrees_len = c.in_ok-degrees.ensures.len ∙ joins_size;
       degrees = λ p there.
