@@ -14,7 +14,7 @@ use crate::back_start::{give_finals, points_by_place, private_places, seen_place
 use crate::elimination::Elimination;
 use crate::reduced::Reduced;
 use dist_rows::Rows;
-use elim_step::{Steps, Summary, revisit_point};
+use elim_step::{Steps, Summary, revisit_rows};
 use sparse_rows::SparseRows;
 use std::alloc::Global;
 use std::marker::Brand;
@@ -91,7 +91,7 @@ impl<R: Rows> Elimination<R> {
     {
         let place = self.place_taken(n);
         self.joins.neighbours(place, done.as_slice(), later)?;
-        revisit_point(&self.rows, finals, place, later.as_slice(), steps);
+        revisit_rows(&self.rows, finals, place, later.as_slice(), steps);
         done[place as usize] = true;
         Ok(())
     }

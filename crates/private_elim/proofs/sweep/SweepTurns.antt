@@ -12,8 +12,8 @@ use Rattle.elim_step.specs.declared.summary.SummaryEntry.{SummaryEntry}
 use Rattle.elim_step.specs.Summaries.{is_summary}
 use Rattle.elim_step.specs.Eliminates.{remains}
 use Rattle.elim_step.specs.JoinedPlaces.{is_joined}
-use Rattle.elim_step.specs.Revisits.{names_once, Revisits}
-use Rattle.elim_step.proofs.JoinFacts.{joined-within, names_once-from_rising}
+use Rattle.elim_step.specs.Revisits.{Revisits}
+use Rattle.elim_step.proofs.JoinFacts.{joined-within}
 use Rattle.elim_step.specs.Eliminated.{point_at}
 use Rattle.private_elim.specs.Locals.{private_at, is_private_in}
 use Rattle.private_elim.specs.Underway.{Fields, IsUnderway}
@@ -79,9 +79,6 @@ module _ (e : Fields) (n k : ℕ) (entries : List SummaryEntry) (size : ℕ) (at
   asks_others =
       not_later e.local e.order e.at
       (is_joined e.joins) e.remain t.underway.taken n k t.number t.place t.is entries at done t.swept later t.each within
-
-  pub asks_once : names_once later ≡ true
-  asks_once = names_once-from_rising later t.rising
 
   other : (j : ℕ) → is_in later j ≡ true → j ≢ k
   other = later_other e.local e.order e.at

@@ -1,11 +1,11 @@
 use Rattle.std.proofs.Common.{map}
 use Rattle.private_elim.specs.Underway.{Fields}
-use Rattle.private_elim.proofs.sweep.SweepTurns.{Turn, turn_of, asks_within, asks_all, asks_some, asks_others, asks_once, asks_out, asks_back}
+use Rattle.private_elim.proofs.sweep.SweepTurns.{Turn, turn_of, asks_within, asks_all, asks_some, asks_others, asks_out, asks_back}
 use Rattle.private_elim.proofs.sweep.SweepTurns.{asks_fresh, asks_forward, asks_finals, gives}
 use Rattle.private_elim.proofs.elimination.Elimination.revisit.Goals as goal
 
-pub revisit_point-requires : goal.revisit_point-requires
-revisit_point-requires g c =
+pub revisit_rows-requires : goal.revisit_rows-requires
+revisit_rows-requires g c =
     let i = c.self.inside in
     let e : Fields = record {
       local = i.local;
@@ -34,7 +34,7 @@ revisit_point-requires g c =
       all_within = asks_all e c.args.n k g.entries size at room c.args.done.now.items later turn;
       some = asks_some e c.args.n k g.entries size at room c.args.done.now.items later turn;
       others = asks_others e c.args.n k g.entries size at room c.args.done.now.items later turn;
-      once = asks_once e c.args.n k g.entries size at room c.args.done.now.items later turn;
+      rising = rw c.as_slice-2.ensures.value c.in_ok-neighbours.ensures.places;
       room_out = asks_out e c.args.n k g.entries size at room c.args.done.now.items later turn;
       room_back = asks_back e c.args.n k g.entries size at room c.args.done.now.items later turn;
       fresh = λ j h. asks_fresh e c.args.n k g.entries size at room c.args.done.now.items later turn j;
@@ -67,4 +67,4 @@ returns-clause-swept g c =
     (rw (← c.self.view_is) at c.place_taken-place.ensures.point)
     (rw (← c.self.view_is) at c.requires.1.1.1.0) (rw (← c.self.view_is) at c.requires.1.1.1.1.1) c.as_slice.ensures.value c.as_slice-2.ensures.value
     c.in_ok-neighbours.ensures.each c.in_ok-neighbours.ensures.rising c.in_ok-neighbours.ensures.within in
-    rw (← c.self.view_is) (gives e c.args.n k g.entries size at room c.args.done.now.items later turn _ c.revisit_point.ensures.cells)
+    rw (← c.self.view_is) (gives e c.args.n k g.entries size at room c.args.done.now.items later turn _ c.revisit_rows.ensures.cells)
