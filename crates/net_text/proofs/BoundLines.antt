@@ -24,7 +24,8 @@ record Found {A : Type 0} (v : Version) (o : Option A) (next : A → Result Net 
   is : o ≡ Some value
   on : building v (next value) ≡ Goes s
 
-found : {A : Type 0} (v : Version) (o : Option A) (c : TextCause) (next : A → Result Net TextCause) (s : Stage) → building v (given o c next) ≡ Goes s → Found v o next s
+found : {A : Type 0} (v : Version) (o : Option A) (c : TextCause) (next : A → Result Net TextCause) (s : Stage)
+    → building v (given o c next) ≡ Goes s → Found v o next s
 found v None c next s e = absurd (cc)
 found v (Some x) c next s e = record { value = x; is = refl; on = e }
 
@@ -80,12 +81,14 @@ bound_is_two_arcs v net from to low high back s goes minus =
     let many : ℕ = 2 * length net.acts + length net.given in
     let apart = passed v (nat_eq i j) cause.SamePoint (cond (is_beyond h || is_beyond l) (Err cause.BoundRange)
     (cond (not (nat_le (many + 2) most_arcs)) (Err cause.TooManyArcs) (built (with_arcs net both)))) s to_at.on in
-    let near = passed v (is_beyond h || is_beyond l) cause.BoundRange (cond (not (nat_le (many + 2) most_arcs)) (Err cause.TooManyArcs) (built (with_arcs net both))) s apart.1 in
+    let near = passed v (is_beyond h || is_beyond l) cause.BoundRange
+    (cond (not (nat_le (many + 2) most_arcs)) (Err cause.TooManyArcs) (built (with_arcs net both))) s apart.1 in
     let room = passed v (not (nat_le (many + 2) most_arcs)) cause.TooManyArcs (built (with_arcs net both)) s near.1 in
     let ranges = neither (is_beyond h) (is_beyond l) near.0 in
     let one : Net = with_arcs net (arc_between i j h ∷ []) in
     let longer : 2 * length one.acts + length one.given ≡ many + 1 = omega (arith, length-append net.given (arc_between i j h ∷ [])) in
-    let there : read_arc net (from ∷ to ∷ high ∷ []) ≡ built one = arc_read net from to high i j h high_at.is from_at.is to_at.is apart.0 ranges.0 (room_now many room.0) in
+    let there : read_arc net (from ∷ to ∷ high ∷ []) ≡ built one =
+    arc_read net from to high i j h high_at.is from_at.is to_at.is apart.0 ranges.0 (room_now many room.0) in
     let again : read_arc one (to ∷ from ∷ back ∷ []) ≡ built (with_arcs one (arc_between j i (neg_ℤ l) ∷ [])) =
     arc_read one to from back j i (neg_ℤ l) (minus ∙ ap (option_map neg_ℤ) low_at.is) to_at.is from_at.is (turned i j apart.0) (near_back l ranges.1)
     (room_then many (2 * length one.acts + length one.given) longer room.0) in

@@ -27,7 +27,8 @@ past_blanks (suc n) (b ∷ bs) few blank =
 -- where no element passes, the place of the first one is the end
 pub none_before : {X : Type 0} (p : X → Bool) (xs : List X) → position p xs ≡ None → length xs ≤ position_or_len p xs
 none_before p xs nowhere =
-    (elim (nat_lt (position_or_len p xs) (length xs)) as (λ t. nat_lt (position_or_len p xs) (length xs) ≡ t → cond t (Some (position_or_len p xs)) None ≡ None → length xs ≤ position_or_len p xs) [
+    (elim (nat_lt (position_or_len p xs) (length xs))
+    as (λ t. nat_lt (position_or_len p xs) (length xs) ≡ t → cond t (Some (position_or_len p xs)) None ≡ None → length xs ≤ position_or_len p xs) [
       | true ↦ λ e h. absurd (cc)
       | false ↦ λ e h. grind (arith, nat_tests)
     ]) refl nowhere
@@ -77,7 +78,8 @@ later line zero filled blank = absurd (false≢true (sym filled ∙ blank))
 later line (suc n) filled blank = omega arith
 
 -- a line that begins with a field is cut at its first blank
-pub field_cut : (line : List ℕ) (n : ℕ) → is_blank (get_or line 0 0) ≡ false → position is_blank line ≡ Some n → fields line ≡ take n line ∷ fields (drop (n + 1) line)
+pub field_cut : (line : List ℕ) (n : ℕ) → is_blank (get_or line 0 0) ≡ false → position is_blank line ≡ Some n
+    → fields line ≡ take n line ∷ fields (drop (n + 1) line)
 field_cut line n filled at =
     let here = position-Some is_blank line n 0 at in
     let low : n < length line = here.0 in
@@ -113,13 +115,15 @@ take_none (suc n) [] none = refl
 take_none (suc n) (x ∷ xs) none = absurd (cc)
 
 -- no field is left
-pub no_more : (line rest : List ℕ) (room : List (Bor (List ℕ))) (i : ℕ) → texts (take i room) ++ take (length room - i) (fields rest) ≡ take (length room) (fields line)
+pub no_more : (line rest : List ℕ) (room : List (Bor (List ℕ))) (i : ℕ)
+    → texts (take i room) ++ take (length room - i) (fields rest) ≡ take (length room) (fields line)
     → fields rest ≡ [] → texts (take i room) ≡ take (length room) (fields line)
 no_more line rest room i so none =
     sym (ap (λ (xs : List (List ℕ)). texts (take i room) ++ xs) (take_none (length room - i) (fields rest) none) ∙ append-nil (texts (take i room))) ∙ so
 
 -- the room is full
-pub is_full : (line rest : List ℕ) (room : List (Bor (List ℕ))) (i : ℕ) → length room ≤ i → texts (take i room) ++ take (length room - i) (fields rest) ≡ take (length room) (fields line)
+pub is_full : (line rest : List ℕ) (room : List (Bor (List ℕ))) (i : ℕ) → length room ≤ i
+    → texts (take i room) ++ take (length room - i) (fields rest) ≡ take (length room) (fields line)
     → texts (take (length room) room) ≡ take (length room) (fields line)
 is_full line rest room i full so =
     let none : length room - i ≡ 0 = omega arith in

@@ -8,9 +8,11 @@ use Rattle.net_text.specs.Plain.{HasFront}
 pub flat_map_step : {X : Type 0} (f : X → List ℕ) (xs : List X) (k : ℕ) (d : X) (start out more : List ℕ) → k < length xs
     → out ≡ start ++ flat_map f (take k xs) → more ≡ out ++ f (get_or xs k d) → more ≡ start ++ flat_map f (take (k + 1) xs)
 flat_map_step f xs k d start out more lt before step =
-    step ∙ ap (λ o. o ++ f (get_or xs k d)) before ∙ flat_map_more f start (take k xs) (get_or xs k d) ∙ ap (λ l. start ++ flat_map f l) (sym (take_more xs k d lt))
+    step ∙ ap (λ o. o ++ f (get_or xs k d)) before ∙ flat_map_more f start (take k xs) (get_or xs k d)
+    ∙ ap (λ l. start ++ flat_map f l) (sym (take_more xs k d lt))
 
-pub flat_map_whole : {X : Type 0} (f : X → List ℕ) (xs : List X) (k : ℕ) (start out : List ℕ) → length xs ≤ k → out ≡ start ++ flat_map f (take k xs) → out ≡ start ++ flat_map f xs
+pub flat_map_whole : {X : Type 0} (f : X → List ℕ) (xs : List X) (k : ℕ) (start out : List ℕ)
+    → length xs ≤ k → out ≡ start ++ flat_map f (take k xs) → out ≡ start ++ flat_map f xs
 flat_map_whole f xs k start out all e = e ∙ ap (λ l. start ++ flat_map f l) (take_all k xs all)
 
 -- five pieces, one after another

@@ -28,7 +28,8 @@ length-line w fs = length-append (w ++ spaced fs) (10 ∷ [])
 -- carriage return at its end, it is text, and its word begins no comment; blanks stand only where fields were
 -- joined, so it is cut into the word and the fields again. So the text is read as its fields do, and reading goes
 -- on after the line feed, one line and the line's length further.
-pub read_line : (s : Stage) (n before : ℕ) (w : List ℕ) (fs : List (List ℕ)) (more : List ℕ) → IsField w → AllByRecursion IsField fs → is_skipped (w ++ spaced fs) ≡ false
+pub read_line : (s : Stage) (n before : ℕ) (w : List ℕ) (fs : List (List ℕ)) (more : List ℕ)
+    → IsField w → AllByRecursion IsField fs → is_skipped (w ++ spaced fs) ≡ false
     → read_from s n before (lines (line w fs ++ more))
     ≡ conclude (fields_do s (w ∷ fs)) n (before + length (line w fs)) (λ t. read_from t (n + 1) (before + length (line w fs)) (lines more))
 read_line s n before w fs more h hs word =

@@ -23,7 +23,8 @@ point_miscounted v net (a ∷ []) other = refl
 point_miscounted v net (a ∷ b ∷ []) other = absurd (other refl)
 point_miscounted v net (a ∷ b ∷ c ∷ fs) other = refl
 
-pub point_unknown : (v : Version) (net : Net) (fs : List (Bor (List ℕ))) → 2 ≤ length fs → length fs < 3 → find_agent net (text_at fs 0) ≡ None → read_point v net (texts fs) ≡ Err cause.NameUnknown
+pub point_unknown : (v : Version) (net : Net) (fs : List (Bor (List ℕ)))
+    → 2 ≤ length fs → length fs < 3 → find_agent net (text_at fs 0) ≡ None → read_point v net (texts fs) ≡ Err cause.NameUnknown
 point_unknown v net fs low high no_agent =
     ap (read_point v net) (two_fields fs low high)
     ∙ ap (λ (o : Option ℕ). given o cause.NameUnknown (λ a. add_point v net a (text_at fs 1))) no_agent
@@ -43,7 +44,8 @@ bound_known net fs l h l' h' i j low high is_low is_high is_from is_to same_low 
     let to_do : ℕ → ℕ → ℤ → ℤ → Result Net TextCause = λ i j l h. add_bound net i j l h in
     let line =
     ap (read_bound net) (four_fields fs low high)
-    ∙ ap (λ (o : Option ℤ). given o cause.NumberBad (λ l. given_number (text_at fs 3) (λ h. given_point net (text_at fs 0) (λ i. given_point net (text_at fs 1) (λ j. to_do i j l h))))) is_low
+    ∙ ap (λ (o : Option ℤ). given o cause.NumberBad (λ l. given_number (text_at fs 3)
+    (λ h. given_point net (text_at fs 0) (λ i. given_point net (text_at fs 1) (λ j. to_do i j l h))))) is_low
     ∙ ap (λ (o : Option ℤ). given o cause.NumberBad (λ h. given_point net (text_at fs 0) (λ i. given_point net (text_at fs 1) (λ j. to_do i j l h)))) is_high
     ∙ ap (λ (o : Option ℕ). given o cause.NameUnknown (λ i. given_point net (text_at fs 1) (λ j. to_do i j l h))) is_from
     ∙ ap (λ (o : Option ℕ). given o cause.NameUnknown (λ j. to_do i j l h)) is_to
@@ -51,7 +53,8 @@ bound_known net fs l h l' h' i j low high is_low is_high is_from is_to same_low 
     ap (λ (x : ℤ). to_do i j x h') same_low ∙ ap (λ (x : ℤ). to_do i j l x) same_high ∙ sym line
 
 pub act_known : (net : Net) (fs : List (Bor (List ℕ))) (l h l' h' : ℤ) (a : ℕ) → 4 ≤ length fs → length fs < 5 → number_of (text_at fs 2) ≡ Some l
-    → number_of (text_at fs 3) ≡ Some h → find_agent net (text_at fs 0) ≡ Some a → l' ≡ l → h' ≡ h → add_act net a (text_at fs 1) l' h' ≡ read_act net (texts fs)
+    → number_of (text_at fs 3) ≡ Some h → find_agent net (text_at fs 0) ≡ Some a → l' ≡ l → h' ≡ h
+    → add_act net a (text_at fs 1) l' h' ≡ read_act net (texts fs)
 act_known net fs l h l' h' a low high is_low is_high is_agent same_low same_high =
     let to_do : ℕ → ℤ → ℤ → Result Net TextCause = λ a l h. add_act net a (text_at fs 1) l h in
     let line =

@@ -42,7 +42,8 @@ position_none p xs before =
 
 -- WHERE A NAME STANDS. Among names that differ pairwise the look-up of the name at a place finds that place: it passes
 -- there, and at no place before it. So a name that is written is read as the number that it was written for.
-pub position_back : (names : List (List ℕ)) (i : ℕ) → AllPairs (λ (x y : List ℕ). x ≢ y) names → i < length names → position (bytes_eq (get_or names i [])) names ≡ Some i
+pub position_back : (names : List (List ℕ)) (i : ℕ)
+    → AllPairs (λ (x y : List ℕ). x ≢ y) names → i < length names → position (bytes_eq (get_or names i [])) names ≡ Some i
 position_back names i differ lt =
     position_some (bytes_eq (get_or names i [])) names i lt
     (λ k before. bytes_other (get_or names i []) (get_or names k []) (λ e. differ k i [] before lt (sym e)))

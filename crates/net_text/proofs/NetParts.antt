@@ -16,7 +16,8 @@ owner_of_later net p later lt =
     ap (λ b. if b then None else option_map (λ (q : Place). q.owner) (slice_get net.places (p - 1))) (ne_eqb p 0 (omega arith))
     ∙ ap (option_map (λ (q : Place). q.owner)) (slice_get-get_or net.places (p - 1) no_place (omega arith))
 
-pub owner_is : (net : Net) (p : ℕ) (r : Option AgentId) (agent : AgentId) → 0 < p → p < point_count net → option_map (λ a. a.0) r ≡ owner_of net p → r ≡ Some agent
+pub owner_is : (net : Net) (p : ℕ) (r : Option AgentId) (agent : AgentId)
+    → 0 < p → p < point_count net → option_map (λ a. a.0) r ≡ owner_of net p → r ≡ Some agent
     → agent.0 ≡ (get_or net.places (p - 1) no_place).owner
 owner_is net p r agent later lt given is =
     let found : Some agent.0 ≡ Some (get_or net.places (p - 1) no_place).owner = sym (ap (option_map (λ a. a.0)) is) ∙ given ∙ owner_of_later net p later lt in
@@ -37,7 +38,8 @@ pub act_line_is : (net : Net) (point : ℕ) (a b : Act) (owner at : ℕ) (agent 
     → line (codes "act") (agent ∷ act_name start ∷ signed_decimal low ∷ signed_decimal high ∷ []) ≡ act_line net (get_or net.places (point - 1) no_place) b
 act_line_is net point a b owner at agent start low high same here owns named is is_low is_high =
     ap (λ (n : List ℕ). line (codes "act") (n ∷ act_name start ∷ signed_decimal low ∷ signed_decimal high ∷ [])) (named ∙ ap (agent_name_of net) owns)
-    ∙ ap (λ (n : List ℕ). line (codes "act") (agent_name_of net (get_or net.places (at - 1) no_place).owner ∷ act_name n ∷ signed_decimal low ∷ signed_decimal high ∷ [])) is
+    ∙ ap (λ (n : List ℕ). line (codes "act")
+    (agent_name_of net (get_or net.places (at - 1) no_place).owner ∷ act_name n ∷ signed_decimal low ∷ signed_decimal high ∷ [])) is
     ∙ ap
     (λ (z : ℤ). line (codes "act")
     (agent_name_of net (get_or net.places (at - 1) no_place).owner ∷ act_name (get_or net.places (at - 1) no_place).name

@@ -40,7 +40,8 @@ use Rattle.net_text.proofs.NumbersBack.{number-signed_decimal, number_is_field}
 use Rattle.net_text.proofs.NamesBack.{name_is_field, position_back, position_fresh, position_none, bytes_other}
 
 -- a line after which reading goes on
-line_goes : (s t : Stage) (w : List ℕ) (fs : List (List ℕ)) → IsField w → AllByRecursion IsField fs → is_skipped (w ++ spaced fs) ≡ false → fields_do s (w ∷ fs) ≡ Goes t
+line_goes : (s t : Stage) (w : List ℕ) (fs : List (List ℕ))
+    → IsField w → AllByRecursion IsField fs → is_skipped (w ++ spaced fs) ≡ false → fields_do s (w ∷ fs) ≡ Goes t
     → (n before : ℕ) (more : List ℕ) → read_from s n before (lines (line w fs ++ more)) ≡ read_from t (n + 1) (before + length (line w fs)) (lines more)
 line_goes s t w fs h hs word does n before more =
     read_line s n before w fs more h hs word
@@ -54,7 +55,8 @@ lines_go : {X : Type 0} (f : X → List ℕ) (stage : List X → Stage) (all : L
     → ((done : List X) (x : X) (todo : List X) → done ++ x ∷ todo ≡ all → (n before : ℕ) (more : List ℕ)
     → read_from (stage done) n before (lines (f x ++ more)) ≡ read_from (stage (done ++ x ∷ [])) (n + 1) (before + length (f x)) (lines more))
     → (done todo : List X) → done ++ todo ≡ all → (n before : ℕ) (more : List ℕ)
-    → read_from (stage done) n before (lines (flat_map f todo ++ more)) ≡ read_from (stage all) (n + length todo) (before + length (flat_map f todo)) (lines more)
+    → read_from (stage done) n before (lines (flat_map f todo ++ more))
+    ≡ read_from (stage all) (n + length todo) (before + length (flat_map f todo)) (lines more)
 lines_go f stage all step done [] e n before more =
     ap (λ l. read_from (stage l) n before (lines more)) (sym (append-nil done) ∙ e)
     ∙ read_at (stage all) n (n + 0) before (before + 0) more (omega arith) (omega arith)
@@ -62,7 +64,8 @@ lines_go f stage all step done (x ∷ todo) e n before more =
     ap (λ t. read_from (stage done) n before (lines t)) (append_assoc (f x) (flat_map f todo) more)
     ∙ step done x todo e n before (flat_map f todo ++ more)
     ∙ lines_go f stage all step (done ++ x ∷ []) todo (append_assoc done (x ∷ []) todo ∙ e) (n + 1) (before + length (f x)) more
-    ∙ read_at (stage all) (n + 1 + length todo) (n + length (x ∷ todo)) (before + length (f x) + length (flat_map f todo)) (before + length (flat_map f (x ∷ todo))) more
+    ∙ read_at (stage all) (n + 1 + length todo) (n + length (x ∷ todo))
+    (before + length (f x) + length (flat_map f todo)) (before + length (flat_map f (x ∷ todo))) more
     (omega arith) (omega (arith, length-append (f x) (flat_map f todo)))
 
 -- what holds of each element holds of the one at hand
@@ -72,7 +75,8 @@ all_at P done x todo all e h =
     (h (length done) x (omega (arith, ap length e, length-append done (x ∷ todo))))
 
 -- the name at hand is not among those before it
-name_fresh : {X : Type 0} (name : X → List ℕ) (done : List X) (x : X) (todo all : List X) → done ++ x ∷ todo ≡ all → AllPairs (λ (a b : List ℕ). a ≢ b) (map name all)
+name_fresh : {X : Type 0} (name : X → List ℕ) (done : List X) (x : X) (todo all : List X)
+    → done ++ x ∷ todo ≡ all → AllPairs (λ (a b : List ℕ). a ≢ b) (map name all)
     → position (bytes_eq (name x)) (map name done) ≡ None
 name_fresh name done x todo all e differ =
     position_fresh (map name done) (name x) (map name todo)
@@ -151,10 +155,12 @@ agent_name_is_field : (net : Net) → IsNetwork net → (a : ℕ) → a < length
 agent_name_is_field net valid a lt = name_is_field (agent_name_of net a) (valid.agent_forms a no_agent lt)
 
 -- a name that no point among these has
-unknown : (net : Net) (done : List Place) (acts : List Act) (p : Place) → p.name ≢ 122 ∷ [] → position (bytes_eq p.name) (map (λ (q : Place). q.name) done) ≡ None
+unknown : (net : Net) (done : List Place) (acts : List Act) (p : Place)
+    → p.name ≢ 122 ∷ [] → position (bytes_eq p.name) (map (λ (q : Place). q.name) done) ≡ None
     → is_some (find_point (record { horizon = net.horizon; agents = net.agents; places = done; acts = acts; given = [] }) p.name) ≡ false
 unknown net done acts p other fresh =
-    ap (λ b. is_some (if b then Some 0 else option_map (λ n. n + 1) (position (bytes_eq p.name) (map (λ (q : Place). q.name) done)))) (bytes_other p.name (122 ∷ []) other)
+    ap (λ b. is_some (if b then Some 0 else option_map (λ n. n + 1) (position (bytes_eq p.name) (map (λ (q : Place). q.name) done))))
+    (bytes_other p.name (122 ∷ []) other)
     ∙ ap (λ o. is_some (option_map (λ n. n + 1) o)) fresh
 
 not_full : (v : Version) (net now : Net) → Serves v net → point_count now < point_count net → is_full_in v now ≡ false
@@ -261,10 +267,12 @@ act_accepted net valid done acts p q todo a name e start end within =
     let second : (done ++ p ∷ []) ++ q ∷ todo ≡ net.places = append_assoc done (p ∷ []) (q ∷ todo) ∙ e in
     let names : Place → List ℕ = λ r. r.name in
     let form : is_name p.name ≡ true = all_at (λ r. is_name r.name ≡ true) done p (q ∷ todo) net.places e valid.point_forms in
-    let start_fresh : position (bytes_eq p.name) (map (λ r. r.name) done) ≡ None = name_fresh (λ r. r.name) done p (q ∷ todo) net.places e valid.points_differ in
+    let start_fresh : position (bytes_eq p.name) (map (λ r. r.name) done) ≡ None =
+    name_fresh (λ r. r.name) done p (q ∷ todo) net.places e valid.points_differ in
     let end_fresh : position (bytes_eq q.name) (map (λ r. r.name) done) ≡ None =
     position_prefix (bytes_eq q.name) (map names done) (map names (p ∷ []))
-    (ap (position (bytes_eq q.name)) (sym (map-append names done (p ∷ []))) ∙ name_fresh (λ r. r.name) (done ++ p ∷ []) q todo net.places second valid.points_differ) in
+    (ap (position (bytes_eq q.name)) (sym (map-append names done (p ∷ [])))
+    ∙ name_fresh (λ r. r.name) (done ++ p ∷ []) q todo net.places second valid.points_differ) in
     let start_new : is_some (find_point now (act_start_name name)) ≡ false =
     ap (λ n. is_some (find_point now n)) (sym start)
     ∙ unknown net done acts p (all_at (λ r. r.name ≢ 122 ∷ []) done p (q ∷ todo) net.places e valid.not_z) start_fresh in
@@ -276,7 +284,8 @@ act_accepted net valid done acts p q todo a name e start end within =
     let low_far : neg_ℤ (pos greatest_bound) ≤ℤ a.low = let low = within.low_low in omega (arith, ints) in
     let last : Option NetError = None in
     let beyond : (b : ℤ) → neg_ℤ (pos greatest_bound) ≤ℤ b → b ≤ℤ pos greatest_bound → is_beyond b ≡ false = λ b low high.
-    or_from (int_lt b (neg_ℤ (pos greatest_bound))) (int_lt (pos greatest_bound) b) (not_below b (neg_ℤ (pos greatest_bound)) low) (not_below (pos greatest_bound) b high) in
+    or_from (int_lt b (neg_ℤ (pos greatest_bound))) (int_lt (pos greatest_bound) b)
+    (not_below b (neg_ℤ (pos greatest_bound)) low) (not_below (pos greatest_bound) b high) in
     let range : Option NetError = if is_beyond a.high || is_beyond a.low then Some refused.BoundRange else None in
     let duration : Option NetError = if int_lt a.low (pos 0) then Some refused.NegativeDuration else range in
     let points : Option NetError = if nat_le most_points (length done + 1 + 1) then Some refused.TooManyPoints else duration in
@@ -310,7 +319,8 @@ act_goes net valid done acts p q todo a e within next =
     let own : act_name p.name ≡ next.name = ap act_name next.start_name ∙ act_name_back next.name in
     let low_far : neg_ℤ (pos greatest_bound) ≤ℤ a.low = let low = within.low_low in omega (arith, ints) in
     ap (λ (n : List ℕ). fields_do (with_places Two net done acts) (codes "act" ∷ agent ∷ n ∷ signed_decimal a.low ∷ signed_decimal a.high ∷ [])) own
-    ∙ ap (λ (o : Option ℤ). building Two (given o cause.NumberBad (λ l. given_number (signed_decimal a.high) (λ h. given_agent now agent (λ i. add_act now i next.name l h)))))
+    ∙ ap (λ (o : Option ℤ). building Two (given o cause.NumberBad (λ l. given_number (signed_decimal a.high)
+    (λ h. given_agent now agent (λ i. add_act now i next.name l h)))))
     (number-signed_decimal a.low low_far within.low_high)
     ∙ ap (λ (o : Option ℤ). building Two (given o cause.NumberBad (λ h. given_agent now agent (λ i. add_act now i next.name a.low h))))
     (number-signed_decimal a.high within.high_low within.high_high)
@@ -323,7 +333,8 @@ act_goes net valid done acts p q todo a e within next =
     ∙ ap (λ (r : Place). Goes (with_places Two net (done ++ p ∷ r ∷ [])
     (acts ++ record { start = record { 0 = length done + 1 }; end = record { 0 = length done + 1 + 1 }; low = a.low; high = a.high } ∷ [])))
     (place_is q (act_end_name next.name) p.owner next.end_name next.one_owner)
-    ∙ ap (λ (b : Act). Goes (with_places Two net (done ++ p ∷ q ∷ []) (acts ++ b ∷ []))) (act_is a (length done + 1) (length done + 1 + 1) next.starts next.ends)
+    ∙ ap (λ (b : Act). Goes (with_places Two net (done ++ p ∷ q ∷ []) (acts ++ b ∷ [])))
+    (act_is a (length done + 1) (length done + 1 + 1) next.starts next.ends)
 
 act_line_goes : (net : Net) → IsNetwork net → (done : List Place) (acts : List Act) (p q : Place) (todo : List Place) (a : Act)
     → done ++ p ∷ q ∷ todo ≡ net.places → IsActWithin net.places a → IsNext net done p q a → (n before : ℕ) (more : List ℕ)
@@ -370,14 +381,16 @@ not_yet net k a acts other later =
     let past : k + 1 ≤ a.start.0 = let from : k ≤ a.start.0 = later.0 in grind (arith, nat_tests) in (past, later.1, later.2)
 
 -- a point whose line comes next, and then the lines that are left
-point_and_on : (v : Version) (net : Net) → IsNetwork net → Serves v net → (done : List Place) (did : List Act) (p : Place) (todo : List Place) (acts : List Act) (k : ℕ)
+point_and_on : (v : Version) (net : Net) → IsNetwork net → Serves v net
+    → (done : List Place) (did : List Act) (p : Place) (todo : List Place) (acts : List Act) (k : ℕ)
     → done ++ p ∷ todo ≡ net.places → length acts ≤ length todo
     → ((n before : ℕ) (more : List ℕ)
     → read_from (with_places v net (done ++ p ∷ []) did) n before (lines (place_lines net k todo acts ++ more))
     ≡ read_from (with_places v net net.places net.acts) (n + (length todo - length acts)) (before + length (place_lines net k todo acts)) (lines more))
     → (n before : ℕ) (more : List ℕ)
     → read_from (with_places v net done did) n before (lines ((point_line net p ++ place_lines net k todo acts) ++ more))
-    ≡ read_from (with_places v net net.places net.acts) (n + (length (p ∷ todo) - length acts)) (before + length (point_line net p ++ place_lines net k todo acts)) (lines more)
+    ≡ read_from (with_places v net net.places net.acts) (n + (length (p ∷ todo) - length acts))
+    (before + length (point_line net p ++ place_lines net k todo acts)) (lines more)
 point_and_on v net valid serves done did p todo acts k e few on n before more =
     let left : List ℕ = place_lines net k todo acts in
     ap (λ t. read_from (with_places v net done did) n before (lines t)) (append_assoc (point_line net p) left more)
@@ -394,7 +407,8 @@ act_and_on : (net : Net) → IsNetwork net → (done : List Place) (did : List A
     ≡ read_from (with_places Two net net.places net.acts) (n + (length todo - length acts)) (before + length (place_lines net k todo acts)) (lines more))
     → (n before : ℕ) (more : List ℕ)
     → read_from (with_places Two net done did) n before (lines ((act_line net p a ++ place_lines net k todo acts) ++ more))
-    ≡ read_from (with_places Two net net.places net.acts) (n + (length (p ∷ q ∷ todo) - length (a ∷ acts))) (before + length (act_line net p a ++ place_lines net k todo acts)) (lines more)
+    ≡ read_from (with_places Two net net.places net.acts) (n + (length (p ∷ q ∷ todo) - length (a ∷ acts)))
+    (before + length (act_line net p a ++ place_lines net k todo acts)) (lines more)
 act_and_on net valid done did p q todo a acts k e within starts few on n before more =
     let left : List ℕ = place_lines net k todo acts in
     ap (λ t. read_from (with_places Two net done did) n before (lines t)) (append_assoc (act_line net p a) left more)
@@ -422,14 +436,16 @@ places_from v net valid serves done [] did (a ∷ acts) k at e f later n before 
     omega (arith, later.1.there, ap length e, length-append done none))
 places_from v net valid serves done (p ∷ todo) did [] k at e f later n before more =
     point_and_on v net valid serves done did p todo [] (k + 1) e (omega arith)
-    (places_from v net valid serves (done ++ p ∷ []) todo did [] (k + 1) (omega (arith, length-append done (p ∷ []))) (append_assoc done (p ∷ []) todo ∙ e) f tt)
+    (places_from v net valid serves (done ++ p ∷ []) todo did [] (k + 1) (omega (arith, length-append done (p ∷ [])))
+    (append_assoc done (p ∷ []) todo ∙ e) f tt)
     n before more
 places_from v net valid serves done (p ∷ []) did (a ∷ acts) k at e f later n before more =
     absurd (let next : a.end.0 ≡ a.start.0 + 1 = later.1.next in let from : k ≤ a.start.0 = later.0 in
     omega (arith, later.1.there, ap length e, length-append done (p ∷ [])))
 places_from v net valid serves done (p ∷ q ∷ todo) did (a ∷ acts) k at e f later n before more =
     let all : length net.places ≡ length done + length (p ∷ q ∷ todo) = sym (ap length e) ∙ length-append done (p ∷ q ∷ todo) in
-    let now : Bool → List ℕ = λ t. if t then act_line net p a ++ place_lines net (k + 2) todo acts else point_line net p ++ place_lines net (k + 1) (q ∷ todo) (a ∷ acts) in
+    let now : Bool → List ℕ = λ t. if t then act_line net p a ++ place_lines net (k + 2) todo acts
+    else point_line net p ++ place_lines net (k + 1) (q ∷ todo) (a ∷ acts) in
     (elim (a.start.0 == k) as (λ t. (a.start.0 == k) ≡ t → read_from (with_places v net done did) n before (lines (now t ++ more))
     ≡ read_from (with_places v net net.places net.acts) (n + (length (p ∷ q ∷ todo) - length (a ∷ acts))) (before + length (now t)) (lines more)) [
       | true ↦ λ t.
@@ -471,7 +487,8 @@ place_back : (net : Net) → IsNetwork net → (q : ℕ) → q < length net.plac
 place_back net valid q lt =
     let name : List ℕ = (get_or net.places q no_place).name in
     let is : get_or (point_names net) q [] ≡ name = get_or-map (λ (p : Place). p.name) net.places q no_place [] lt in
-    ap (λ b. if b then Some 0 else option_map (λ n. n + 1) (position (bytes_eq name) (point_names net))) (bytes_other name (122 ∷ []) (valid.not_z q no_place lt))
+    ap (λ b. if b then Some 0 else option_map (λ n. n + 1) (position (bytes_eq name) (point_names net)))
+    (bytes_other name (122 ∷ []) (valid.not_z q no_place lt))
     ∙ ap (option_map (λ n. n + 1))
     (subst (λ (k : List ℕ). position (bytes_eq k) (point_names net) ≡ Some q) is
     (position_back (point_names net) q valid.points_differ (omega (arith, length-map net.places (λ (p : Place). p.name)))))
@@ -515,7 +532,8 @@ arc_goes v net valid done a todo e =
     let to : List ℕ = point_name_of net a.to.0 in
     ap (λ (o : Option ℤ). building v (given o cause.NumberBad (λ b. given_point now from (λ i. given_point now to (λ j. add_arc now i j b)))))
     (number-signed_decimal a.bound within.low within.high)
-    ∙ ap (λ (o : Option ℕ). building v (given o cause.NameUnknown (λ i. given_point now to (λ j. add_arc now i j a.bound)))) (point_back net valid a.from.0 within.starts)
+    ∙ ap (λ (o : Option ℕ). building v (given o cause.NameUnknown (λ i. given_point now to (λ j. add_arc now i j a.bound))))
+    (point_back net valid a.from.0 within.starts)
     ∙ ap (λ (o : Option ℕ). building v (given o cause.NameUnknown (λ j. add_arc now a.from.0 j a.bound))) (point_back net valid a.to.0 within.ends)
     ∙ ap (λ o. building v (goes_unless o (with_arcs now (arc_between a.from.0 a.to.0 a.bound ∷ [])))) (arc_accepted net valid done a todo e)
 
@@ -533,9 +551,11 @@ arcs_read v net valid n before more =
     ) refl (arc_goes v net valid done a todo e))
     [] net.given refl n before more
 
-horizon_goes : (v : Version) (net : Net) → IsNetwork net → fields_do (Headed v) (codes "horizon" ∷ signed_decimal net.horizon ∷ []) ≡ Goes (with_agents v net [])
+horizon_goes : (v : Version) (net : Net) → IsNetwork net
+    → fields_do (Headed v) (codes "horizon" ∷ signed_decimal net.horizon ∷ []) ≡ Goes (with_agents v net [])
 horizon_goes v net valid =
-    ap (λ (o : Option ℤ). building v (given o cause.NumberBad add_horizon)) (number-signed_decimal net.horizon (omega (arith, ints, valid.horizon_low)) valid.horizon_high)
+    ap (λ (o : Option ℤ). building v (given o cause.NumberBad add_horizon))
+    (number-signed_decimal net.horizon (omega (arith, ints, valid.horizon_low)) valid.horizon_high)
     ∙ ap (λ b. building v (if b then Err cause.HorizonRange else Ok (record { horizon = net.horizon; agents = []; places = []; acts = []; given = [] })))
     (or_from (int_lt net.horizon (pos 0)) (int_lt (pos greatest_bound) net.horizon) (not_below net.horizon (pos 0) valid.horizon_low)
     (not_below (pos greatest_bound) net.horizon valid.horizon_high))
@@ -553,7 +573,14 @@ regroup a b c d e f g = simp append_assoc
 
 length_of_six : (a b c d e f : List ℕ) → 0 + length a + length b + length c + length d + length e + length f ≡ length (a ++ b ++ c ++ d ++ e ++ f)
 length_of_six a b c d e f =
-    omega (arith, length-append (a ++ b ++ c ++ d ++ e) f, length-append (a ++ b ++ c ++ d) e, length-append (a ++ b ++ c) d, length-append (a ++ b) c, length-append a b)
+    omega (
+      arith,
+      length-append (a ++ b ++ c ++ d ++ e) f,
+      length-append (a ++ b ++ c ++ d) e,
+      length-append (a ++ b ++ c) d,
+      length-append (a ++ b) c,
+      length-append a b,
+    )
 
 -- PRINTING, THEN READING. The header and the horizon line lead to the network of no agent; then each agent line brings
 -- its agent, each point line its point, each act line its act with its two points, and each arc line its arc, since a network's names have
@@ -583,7 +610,8 @@ plain_read v net valid serves rest =
     ∙ arcs_read v net valid (1 + 1 + 1 + length net.agents + many) (0 + length first + length second + length agents + length places) (last ++ rest)
     ∙ read_line (with_given v net net.given) (1 + 1 + 1 + length net.agents + many + length net.given)
     (0 + length first + length second + length agents + length places + length given) (codes "end") [] rest (record { filled = refl; solid = refl }) tt refl
-    ∙ ap (λ k. Ok (record { net = net; used = k; lines = 1 + 1 + 1 + length net.agents + many + length net.given })) (length_of_six first second agents places given last)
+    ∙ ap (λ k. Ok (record { net = net; used = k; lines = 1 + 1 + 1 + length net.agents + many + length net.given }))
+    (length_of_six first second agents places given last)
     ∙ ap (λ k. Ok (record { net = net; used = length (plain_text v net); lines = k })) counted
 
 pub plain_read_back : (v : Version) (net : Net) → IsNetwork net → Serves v net → IsReadBackIn v net
@@ -593,7 +621,8 @@ plain_read_back v net valid serves = plain_read v net valid serves
 -- the least version serves
 pub least_serves : (net : Net) → Serves (least_version net) net
 least_serves net =
-    (elim (nat_eq (length net.acts) 0 && nat_le (point_count net) most_points_1) as (λ t. (nat_eq (length net.acts) 0 && nat_le (point_count net) most_points_1) ≡ t → Serves (cond t One Two) net) [
+    (elim (nat_eq (length net.acts) 0 && nat_le (point_count net) most_points_1)
+    as (λ t. (nat_eq (length net.acts) 0 && nat_le (point_count net) most_points_1) ≡ t → Serves (cond t One Two) net) [
       | true ↦ λ e.
           let parts = and_parts (nat_eq (length net.acts) 0) (nat_le (point_count net) most_points_1) e in
           (eqb-true (length net.acts) 0 parts.0, leb-true (point_count net) most_points_1 parts.1)

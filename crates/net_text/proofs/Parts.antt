@@ -24,7 +24,8 @@ lines_before part (b ∷ bs) =
     ]
 
 -- a line that a line feed ends
-pub fed_line : (bytes : List ℕ) (n : ℕ) (text : List ℕ) → position (λ b. b == 10) bytes ≡ Some n → text ≡ line_of (take n bytes) → IsFirstLine bytes text (n + 1)
+pub fed_line : (bytes : List ℕ) (n : ℕ) (text : List ℕ)
+    → position (λ b. b == 10) bytes ≡ Some n → text ≡ line_of (take n bytes) → IsFirstLine bytes text (n + 1)
 fed_line bytes n text at is =
     let here = position-Some is_feed bytes n 0 at in
     let low : n < length bytes = here.0 in

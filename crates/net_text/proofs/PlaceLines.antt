@@ -16,7 +16,8 @@ point_first : (net : Net) (n : ℕ) (p : Place) (places : List Place) (acts : Li
 point_first net n p places [] none = refl
 point_first net n p [] (a ∷ acts) none = sym (append-nil (point_line net p))
 point_first net n p (q ∷ places) (a ∷ acts) none =
-    ap (λ (t : Bool). cond t (act_line net p a ++ place_lines net (n + 2) places acts) (point_line net p ++ place_lines net (n + 1) (q ∷ places) (a ∷ acts))) none
+    ap (λ (t : Bool). cond t (act_line net p a ++ place_lines net (n + 2) places acts)
+    (point_line net p ++ place_lines net (n + 1) (q ∷ places) (a ∷ acts))) none
 
 act_first : (net : Net) (n : ℕ) (p q : Place) (places : List Place) (a : Act) (acts : List Act) → a.start.0 ≡ n
     → place_lines net n (p ∷ q ∷ places) (a ∷ acts) ≡ act_line net p a ++ place_lines net (n + 2) places acts

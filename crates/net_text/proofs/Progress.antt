@@ -44,7 +44,8 @@ ends_there said s net step count used rest line left used' count' so h is ends =
     so ∙ taken s step count used rest line left used' count' h is ∙ ap (λ (p : Step). conclude p count' used' (λ t. says_from t count' used' left)) ends
 
 -- the same, where the line is known by what comes of it
-pub ended : {v : Version} (said : Result NetRead TextError) (s after : Stage) (net : Net) (n : Next) (count used : ℕ) (rest line left : List ℕ) (used' count' : ℕ)
+pub ended : {v : Version} (said : Result NetRead TextError) (s after : Stage) (net : Net) (n : Next) (count used : ℕ)
+    (rest line left : List ℕ) (used' count' : ℕ)
     → said ≡ says_from s count used rest → IsTaken rest used count line left used' count' → Takes n after (line_does s line)
     → n ≡ next.Ends → after ≡ Building v net → said ≡ Ok (record { net = net; used = used'; lines = count' })
 ended said s after net n count used rest line left used' count' so h does is builds =
@@ -63,7 +64,8 @@ misses said s c count used rest so none is =
     so ∙ ap (read_from s (count + 1) used) none ∙ ap (λ (x : TextCause). Err (At (count + 1) x)) (sym is)
 
 -- what is left after a line, with what was taken, is no more than before
-pub stays_within : (most used count : ℕ) (rest line left : List ℕ) (used' count' : ℕ) → used + length rest ≤ most → IsTaken rest used count line left used' count' → used' + length left ≤ most
+pub stays_within : (most used count : ℕ) (rest line left : List ℕ) (used' count' : ℕ)
+    → used + length rest ≤ most → IsTaken rest used count line left used' count' → used' + length left ≤ most
 stays_within most used count rest line left used' count' within h =
     let fits : h.size ≤ length rest = h.first.fits in
     let uses : used' ≡ used + h.size = h.uses in

@@ -124,7 +124,8 @@ left_shorter bytes c fuel few =
 -- A PREFIX BY ITSELF. The text is cut at its first line feed into a line and the bytes after it. If the line ends the network, the line with
 -- its line feed is the prefix. If the text goes on, the bytes after it have such a prefix, and the line stands before that. A text without a
 -- line feed is one line, and its own prefix.
-prefix_from : (fuel : ℕ) (bytes : List ℕ) (s : Stage) (n u : ℕ) (r : NetRead) → length bytes ≤ fuel → read_from s n u (lines bytes) ≡ Ok r → Prefix bytes s n u r
+prefix_from : (fuel : ℕ) (bytes : List ℕ) (s : Stage) (n u : ℕ) (r : NetRead)
+    → length bytes ≤ fuel → read_from s n u (lines bytes) ≡ Ok r → Prefix bytes s n u r
 prefix_from zero [] s n u r few e = absurd (cc)
 prefix_from zero (b ∷ bs) s n u r few e = absurd (omega arith)
 prefix_from (suc fuel) bytes s n u r few e =

@@ -35,7 +35,8 @@ pub refused_so : {T : Type 0} (r : Option NetError) (result : Result T NetError)
 refused_so {T} None result e with now h is =
     let at : IsOkUnless {T = T} (Err e) refused.OutOfMemory = subst (λ t. IsOkUnless t refused.OutOfMemory) is h in
     subst (λ x. Adds (goes_unless None with) (Err (refusal_of x)) now) (sym at) tt
-refused_so {T} (Some f) result e with now h is = let one : e ≡ f = cc in subst (λ x. Adds (goes_unless (Some x) with) (Err (refusal_of e)) now) one (same e with now)
+refused_so {T} (Some f) result e with now h is =
+    let one : e ≡ f = cc in subst (λ x. Adds (goes_unless (Some x) with) (Err (refusal_of e)) now) one (same e with now)
 
 pub accepted_so : {T : Type 0} (r : Option NetError) (result : Result T NetError) (x : T) (with now : Net)
     → MatchOption r (IsOkUnless result refused.OutOfMemory) (IsErrOf result) → result ≡ Ok x → now ≡ with → goes_unless r with ≡ Ok now
@@ -52,7 +53,8 @@ finished v r added net (Err e) h f = tt
 
 -- a point that the network accepts is refused where the version's own limit is reached
 pub refused_in : {T : Type 0} (r : Option NetError) (full : Bool) (result : Result T NetError) (e : NetError) (with now : Net)
-    → MatchOption r (IsOkUnless result refused.OutOfMemory) (IsErrOf result) → result ≡ Err e → Adds (goes_unless (or_full r full) with) (Err (refusal_of e)) now
+    → MatchOption r (IsOkUnless result refused.OutOfMemory) (IsErrOf result) → result ≡ Err e
+    → Adds (goes_unless (or_full r full) with) (Err (refusal_of e)) now
 refused_in {T} None full result e with now h is =
     let at : IsOkUnless {T = T} (Err e) refused.OutOfMemory = subst (λ t. IsOkUnless t refused.OutOfMemory) is h in
     subst (λ x. Adds (goes_unless (or_full None full) with) (Err (refusal_of x)) now) (sym at) tt
@@ -65,6 +67,7 @@ accepted_in None full result x with h is room = ap (λ (t : Bool). goes_unless (
 accepted_in (Some f) full result x with h is room = absurd (cc)
 
 pub full_in : {T : Type 0} (r : Option NetError) (full : Bool) (result : Result T NetError) (x : T) (with : Net)
-    → MatchOption r (IsOkUnless result refused.OutOfMemory) (IsErrOf result) → result ≡ Ok x → full ≡ true → goes_unless (or_full r full) with ≡ Err cause.TooManyPoints
+    → MatchOption r (IsOkUnless result refused.OutOfMemory) (IsErrOf result) → result ≡ Ok x → full ≡ true
+    → goes_unless (or_full r full) with ≡ Err cause.TooManyPoints
 full_in None full result x with h is room = ap (λ (t : Bool). goes_unless (cond t (Some refused.TooManyPoints) None) with) room
 full_in (Some f) full result x with h is room = absurd (cc)

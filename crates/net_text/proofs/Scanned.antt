@@ -107,7 +107,8 @@ pub last_field : (bytes rest left : List ℕ) (room : List (Bor (List ℕ))) (i 
     → IsSoFar bytes rest (texts (take i room)) → 0 < n → n < length rest → list_all is_plain (take n rest) ≡ true → t.now ≡ take n rest
     → get_or rest n 0 ≡ 10 → left ≡ drop (n + 1) rest → IsScanned bytes left (texts (take (i + 1) (set room i t)))
 last_field bytes rest left room i n t in_room so some fits plain is feed after =
-    let cut : rest ≡ t.now ++ 10 ∷ left = cut_at rest n 10 fits feed ∙ ap (λ (x : List ℕ). x ++ 10 ∷ drop (n + 1) rest) (sym is) ∙ ap (λ (x : List ℕ). t.now ++ 10 ∷ x) (sym after) in
+    let cut : rest ≡ t.now ++ 10 ∷ left =
+    cut_at rest n 10 fits feed ∙ ap (λ (x : List ℕ). x ++ 10 ∷ drop (n + 1) rest) (sym is) ∙ ap (λ (x : List ℕ). t.now ++ 10 ∷ x) (sym after) in
     let field : IsPlain t.now = subst IsPlain (sym is) (front_plain rest n some (omega arith) plain) in
     subst (IsScanned bytes left) (sym (put room i t in_room)) (ends bytes rest left (texts (take i room)) t.now so field cut)
 

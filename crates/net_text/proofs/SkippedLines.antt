@@ -38,7 +38,8 @@ skipped_here s n u line rest unfed skipped =
     let k : ℕ = u + (length line + 1) in
     ap (read_from s n u)
     (ap lines_of (slice_split_at (λ b. b == 10) line 10 rest (λ i d lt. ne_eqb (get_or line i d) 10 (unfed i d lt)) refl) ∙ lines_before line rest)
-    ∙ ap (λ (t : Bool). conclude (cond t (Goes s) (cond (is_text l) (fields_do s (fields l)) (Fails cause.NotText))) n k (λ t. read_from t (n + 1) k (lines rest))) skipped
+    ∙ ap (λ (t : Bool). conclude (cond t (Goes s) (cond (is_text l) (fields_do s (fields l)) (Fails cause.NotText))) n k
+    (λ t. read_from t (n + 1) k (lines rest))) skipped
     ∙ read_moved s n u (length line + 1) (lines rest)
 
 either : (d : Step) (n k size : ℕ) (f g : Stage → Result NetRead TextError) → ((t : Stage) → (f t ≡ g t) ⊎ (f t ≡ moved size (g t)))

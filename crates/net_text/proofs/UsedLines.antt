@@ -28,7 +28,8 @@ cut [] fed = absurd fed
 cut (b ∷ []) fed = record { line = []; left = []; is = ap (λ (x : ℕ). x ∷ []) fed; splits = λ more. refl }
 cut (b ∷ c ∷ bs) fed =
     (elim (is_feed b) as (λ t. is_feed b ≡ t → Cut (b ∷ c ∷ bs)) [
-      | true ↦ λ e. let same : b ≡ 10 = grind (arith, nat_tests) in record { line = []; left = c ∷ bs; is = ap (λ (x : ℕ). x ∷ c ∷ bs) same; splits = λ more. refl }
+      | true ↦ λ e.
+          let same : b ≡ 10 = grind (arith, nat_tests) in record { line = []; left = c ∷ bs; is = ap (λ (x : ℕ). x ∷ c ∷ bs) same; splits = λ more. refl }
       | false ↦ λ e.
           let rest = cut (c ∷ bs) fed in
           record {
@@ -46,7 +47,8 @@ left_fed [] (c ∷ cs) fed = inr fed
 left_fed (b ∷ []) left fed = left_fed [] left fed
 left_fed (b ∷ c ∷ line) left fed = left_fed (c ∷ line) left fed
 
-pub lines_cut : (front : List ℕ) (c : Cut front) (rest : List ℕ) → lines (front ++ rest) ≡ record { text = line_of c.line; size = length c.line + 1 } ∷ lines (c.left ++ rest)
+pub lines_cut : (front : List ℕ) (c : Cut front) (rest : List ℕ)
+    → lines (front ++ rest) ≡ record { text = line_of c.line; size = length c.line + 1 } ∷ lines (c.left ++ rest)
 lines_cut front c rest =
     ap (λ (bs : List ℕ). lines (bs ++ rest)) c.is
     ∙ ap lines (append_assoc c.line (10 ∷ c.left) rest)
@@ -54,7 +56,8 @@ lines_cut front c rest =
     ∙ lines_before c.line (c.left ++ rest)
 
 -- each line takes a byte
-after : (d : Step) (n u size : ℕ) (f : Stage → Result NetRead TextError) (r : NetRead) → ((t : Stage) → f t ≡ Ok r → u + size < r.used) → 0 < size → conclude d n (u + size) f ≡ Ok r → u < r.used
+after : (d : Step) (n u size : ℕ) (f : Stage → Result NetRead TextError) (r : NetRead)
+    → ((t : Stage) → f t ≡ Ok r → u + size < r.used) → 0 < size → conclude d n (u + size) f ≡ Ok r → u < r.used
 after (Goes t) n u size f r h some e = let more = h t e in omega arith
 after (Ends net) n u size f r h some e =
     let is : record { net = net; used = u + size; lines = n } ≡ r = cc in
@@ -75,7 +78,8 @@ grows (part ∷ next ∷ more) s n u r e =
     after (line_does s (line_of part)) n u (length part + 1) (λ t. read_from t (n + 1) (u + (length part + 1)) (lines_of (next ∷ more))) r
     (λ t k. grows (next ∷ more) t (n + 1) (u + (length part + 1)) r k) (omega arith) e
 
-along : (d : Step) (n k : ℕ) (f g : Stage → Result NetRead TextError) (r : NetRead) → ((t : Stage) → f t ≡ Ok r → g t ≡ Ok r) → conclude d n k f ≡ Ok r → conclude d n k g ≡ Ok r
+along : (d : Step) (n k : ℕ) (f g : Stage → Result NetRead TextError) (r : NetRead)
+    → ((t : Stage) → f t ≡ Ok r → g t ≡ Ok r) → conclude d n k f ≡ Ok r → conclude d n k g ≡ Ok r
 along (Goes t) n k f g r h e = h t e
 along (Ends net) n k f g r h e = e
 along (Fails c) n k f g r h e = e
@@ -97,7 +101,8 @@ reads_on (suc fuel) front rest other s n u r few fed e used =
     ap (read_from s n u) (lines_cut front c other)
     ∙ along (line_does s (line_of c.line)) n k (λ t. read_from t (n + 1) k (lines (c.left ++ rest))) (λ t. read_from t (n + 1) k (lines (c.left ++ other))) r
     (λ t q. elim (left_fed c.line c.left both) [
-      | inl none ↦ (let past : k < r.used = grows (parts (c.left ++ rest)) t (n + 1) k r q in let empty : length c.left ≡ 0 = ap length none in absurd (omega arith))
+      | inl none ↦
+          (let past : k < r.used = grows (parts (c.left ++ rest)) t (n + 1) k r q in let empty : length c.left ≡ 0 = ap length none in absurd (omega arith))
       | inr more ↦ reads_on fuel c.left rest other t (n + 1) k r (omega arith) more q (omega arith)
     ])
     (sym (ap (read_from s n u) (lines_cut front c rest)) ∙ e)

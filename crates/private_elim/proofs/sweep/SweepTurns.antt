@@ -24,7 +24,8 @@ use Rattle.private_elim.proofs.sweep.SweepEnds.{swept_first}
 use Rattle.private_elim.proofs.sweep.Sweeps.{later_other, some_later, not_later, no_cells, finals_light, swept_more}
 
 -- the point of number n in the order, at place k, is next; `later` holds the places that are done and joined with it
-pub record Turn (e : Fields) (n k : ℕ) (entries : List SummaryEntry) (size : ℕ) (at : ℕ → ℕ → Option Cell) (room : ℕ → ℕ → Bool) (done : List Bool) (later : List ℕ) : Type 0 where
+pub record Turn (e : Fields) (n k : ℕ) (entries : List SummaryEntry) (size : ℕ)
+    (at : ℕ → ℕ → Option Cell) (room : ℕ → ℕ → Bool) (done : List Bool) (later : List ℕ) : Type 0 where
   pub underway : IsUnderway e
   pub inside : (p q : ℕ) → is_some (e.at p q) ≡ true → (p < e.places) × (q < e.places) × (p ≢ q)
   pub rooms : HasRoomAll (record { local = e.local; order = e.order }) room
@@ -38,26 +39,29 @@ pub record Turn (e : Fields) (n k : ℕ) (entries : List SummaryEntry) (size : �
   pub below : (m : ℕ) → is_in later m ≡ true → m < e.joins.size
 
 -- the lists under the two names that an answer has for them
-pub turn_of : (e : Fields) (n k : ℕ) (entries : List SummaryEntry) (size : ℕ) (at : ℕ → ℕ → Option Cell) (room : ℕ → ℕ → Bool) (done done' : List Bool) (later later' : List ℕ)
+pub turn_of : (e : Fields) (n k : ℕ) (entries : List SummaryEntry) (size : ℕ) (at : ℕ → ℕ → Option Cell) (room : ℕ → ℕ → Bool)
+    (done done' : List Bool) (later later' : List ℕ)
     → IsUnderway e → ((p q : ℕ) → is_some (e.at p q) ≡ true → (p < e.places) × (q < e.places) × (p ≢ q))
-    → HasRoomAll (record { local = e.local; order = e.order }) room → n < length e.order → k < length e.local.points → point_at e.local.points k ≡ point_at e.order n → size ≡ length e.local.points
+    → HasRoomAll (record { local = e.local; order = e.order }) room → n < length e.order → k < length e.local.points
+    → point_at e.local.points k ≡ point_at e.order n → size ≡ length e.local.points
     → IsSwept e.local e.order entries (n + 1) at done → done' ≡ done → later' ≡ later
     → ((m : ℕ) → is_in later m ≡ (remains done' m && is_joined e.joins k m)) → AllPairs (λ p q. p < q) later
     → ((m : ℕ) → is_in later m ≡ true → m < e.joins.size)
     → Turn e n k entries size at room done later'
-turn_of e n k entries size at room done done' later later' underway inside room_all number place is square swept same_done same_later each rising below = record {
-  underway = underway;
-  inside = inside;
-  rooms = room_all;
-  number = number;
-  place = place;
-  is = is;
-  square = square;
-  swept = swept;
-  each = λ m. ap (λ xs. is_in xs m) same_later ∙ each m ∙ ap (λ d. remains d m && is_joined e.joins k m) same_done;
-  rising = subst (AllPairs (λ p q. p < q)) (sym same_later) rising;
-  below = λ m h. below m (ap (λ xs. is_in xs m) (sym same_later) ∙ h);
-}
+turn_of e n k entries size at room done done' later later' underway inside room_all number place is square swept same_done same_later each rising below =
+    record {
+      underway = underway;
+      inside = inside;
+      rooms = room_all;
+      number = number;
+      place = place;
+      is = is;
+      square = square;
+      swept = swept;
+      each = λ m. ap (λ xs. is_in xs m) same_later ∙ each m ∙ ap (λ d. remains d m && is_joined e.joins k m) same_done;
+      rising = subst (AllPairs (λ p q. p < q)) (sym same_later) rising;
+      below = λ m h. below m (ap (λ xs. is_in xs m) (sym same_later) ∙ h);
+    }
 
 module _ (e : Fields) (n k : ℕ) (entries : List SummaryEntry) (size : ℕ) (at : ℕ → ℕ → Option Cell) (room : ℕ → ℕ → Bool)
     (done : List Bool) (later : List ℕ) (t : Turn e n k entries size at room done later) where

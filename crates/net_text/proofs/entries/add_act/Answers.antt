@@ -13,7 +13,8 @@ returns-in-Err c =
     let low : to_z w64 (of_z w64 c.args.low) ≡ c.args.low = omega (arith, ints) in
     let high : to_z w64 (of_z w64 c.args.high) ≡ c.args.high = omega (arith, ints) in
     rw c.refused.ensures (refused_so (act_refusal c.args.net.now c.args.name.now c.args.low c.args.high) c.add_act.result c.in-Err.error
-    (with_act c.args.net.now c.args.agent.0 c.args.name.now c.args.low c.args.high) c.add_act.new.self (rw (low, high) at c.add_act.ensures.refusals) c.in-Err.is)
+    (with_act c.args.net.now c.args.agent.0 c.args.name.now c.args.low c.args.high) c.add_act.new.self
+    (rw (low, high) at c.add_act.ensures.refusals) c.in-Err.is)
 
 pub returns : goal.returns
 returns c =
@@ -22,5 +23,6 @@ returns c =
     let low : to_z w64 (of_z w64 c.args.low) ≡ c.args.low = omega (arith, ints) in
     let high : to_z w64 (of_z w64 c.args.high) ≡ c.args.high = omega (arith, ints) in
     accepted_so (act_refusal c.args.net.now c.args.name.now c.args.low c.args.high) c.add_act.result c.in_default.field-0
-    (with_act c.args.net.now c.args.agent.0 c.args.name.now c.args.low c.args.high) c.add_act.new.self (rw (low, high) at c.add_act.ensures.refusals) c.in_default.is
+    (with_act c.args.net.now c.args.agent.0 c.args.name.now c.args.low c.args.high) c.add_act.new.self
+    (rw (low, high) at c.add_act.ensures.refusals) c.in_default.is
     (rw (low, high) at c.in_default.ensures.ok.1)

@@ -11,7 +11,8 @@ returns-in_default c = point_miscounted c.args.version c.args.net.now c.args.fie
 pub returns-in_err-agent : goal.returns-in_err-agent
 returns-in_err-agent c =
     let p = err_from_is_err_and c.from_residual.result c.from_residual.ensures.1 in
-    rw (p.1, p.2, c.in_err-agent.ensures.found.0) (point_unknown c.args.version c.args.net.now c.args.fields.now c.in-len2.len_at_least c.in-len2.len_below c.in_err-agent.ensures.found.1)
+    rw (p.1, p.2, c.in_err-agent.ensures.found.0)
+    (point_unknown c.args.version c.args.net.now c.args.fields.now c.in-len2.len_at_least c.in-len2.len_below c.in_err-agent.ensures.found.1)
 
 pub returns : goal.returns
 returns c =

@@ -10,7 +10,8 @@ pub agent_name-requires : goal.agent_name-requires
 agent_name-requires c =
     let within = c.act-act.ensures.within in
     let start : ℕ = c.act-act.result.start.0 in
-    let owner = owner_is c.args.net.now start c.owner.result c.in-Some.owner within.after_z (omega (arith, within.next, within.there)) c.owner.ensures c.in-Some.is in
+    let owner = owner_is c.args.net.now start c.owner.result c.in-Some.owner within.after_z
+    (omega (arith, within.next, within.there)) c.owner.ensures c.in-Some.is in
     let own = c.requires.valid.owners (start - 1) no_place (omega (arith, within.after_z, within.next, within.there)) in
     omega arith
 
@@ -30,5 +31,6 @@ returns-clause-ok c =
     c.in_ok-add_act_fields.ensures.ok
     ∙ ap (λ (l : List ℕ). c.args.out.now.items ++ l)
     (act_line_is net c.args.place.point c.act-act.result (get_or net.acts c.args.place.act no_act) c.in-Some.owner.0 start c.agent_name.result.now
-    c.point_name-start.result.now (to_z w64 (of_z w64 c.act-act.result.low)) (to_z w64 (of_z w64 c.act-act.result.high)) c.act-act.ensures.act at owner c.agent_name.ensures
+    c.point_name-start.result.now (to_z w64 (of_z w64 c.act-act.result.low)) (to_z w64 (of_z w64 c.act-act.result.high))
+    c.act-act.ensures.act at owner c.agent_name.ensures
     (c.point_name-start.ensures ∙ point_name_is net start within.after_z) is_low is_high)

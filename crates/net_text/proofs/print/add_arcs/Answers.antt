@@ -20,7 +20,8 @@ returns-in_err-add_arc-clause-err c =
 pub loop-given-preserved : goal.loop-given-preserved
 loop-given-preserved c =
     let arcs = length-arcs_of c.args.net.now in
-    flat_map_step (arc_line c.args.net.now) c.args.net.now.given c.loop-given.given no_arc c.args.out.now.items c.loop-given.out.items c.add_arc.new.out.items (omega arith)
+    flat_map_step (arc_line c.args.net.now) c.args.net.now.given c.loop-given.given no_arc
+    c.args.out.now.items c.loop-given.out.items c.add_arc.new.out.items (omega arith)
     c.loop-given.invariant
     (c.in_ok-add_arc.ensures.ok
     ∙ ap (λ (a : Constraint). c.loop-given.out.items ++ arc_line c.args.net.now a)
@@ -29,4 +30,5 @@ loop-given-preserved c =
 pub returns-clause-ok : goal.returns-clause-ok
 returns-clause-ok c =
     let arcs = length-arcs_of c.args.net.now in
-    flat_map_whole (arc_line c.args.net.now) c.args.net.now.given c.loop-given.given c.args.out.now.items c.loop-given.out.items (omega arith) c.loop-given.invariant
+    flat_map_whole (arc_line c.args.net.now) c.args.net.now.given c.loop-given.given
+    c.args.out.now.items c.loop-given.out.items (omega arith) c.loop-given.invariant

@@ -10,16 +10,20 @@ use Rattle.net_text.proofs.Fronts.{joined, front_trans, on_err_from}
 use Rattle.net_text.proofs.print.add_net.Goals as goal
 
 pub overflow_add-agents : goal.overflow_add-agents
-overflow_add-agents c = omega (arith, length-arcs_of c.args.net.now, c.agents.ensures.valid.few_agents, c.agents.ensures.valid.few_points, c.agents.ensures.valid.few_arcs)
+overflow_add-agents c =
+    omega (arith, length-arcs_of c.args.net.now, c.agents.ensures.valid.few_agents, c.agents.ensures.valid.few_points, c.agents.ensures.valid.few_arcs)
 
 pub returns-in_err-add_line-clause-err : goal.returns-in_err-add_line-clause-err
 returns-in_err-add_line-clause-err c =
     let net = c.args.net.now in
-    let before = joined c.args.out.now.items c.add_header.new.out.items c.add_horizon.new.out.items c.add_agents.new.out.items c.add_places.new.out.items c.add_arcs.new.out.items
-    (line (codes "mastn") (version_word c.args.version ∷ [])) _ (flat_map agent_line net.agents) (place_lines net 1 net.places net.acts) (flat_map (arc_line net) net.given)
+    let before = joined c.args.out.now.items c.add_header.new.out.items c.add_horizon.new.out.items
+    c.add_agents.new.out.items c.add_places.new.out.items c.add_arcs.new.out.items
+    (line (codes "mastn") (version_word c.args.version ∷ [])) _
+    (flat_map agent_line net.agents) (place_lines net 1 net.places net.acts) (flat_map (arc_line net) net.given)
     (c.in_ok-add_header.ensures.ok ∙ ap (λ (o : List ℕ). o ++ line (codes "mastn") (version_word c.args.version ∷ [])) c.in_ok-reserve.ensures.items)
     c.in_ok-add_horizon.ensures.ok c.in_ok-add_agents.ensures.ok c.in_ok-add_places.ensures.ok c.in_ok-add_arcs.ensures.ok in
-    on_err_from c.from_residual-in_err-add_line.result (front_trans c.args.out.now.items _ c.add_arcs.new.out.items c.add_line.new.out.items before c.in_err-add_line.ensures.err)
+    on_err_from c.from_residual-in_err-add_line.result
+    (front_trans c.args.out.now.items _ c.add_arcs.new.out.items c.add_line.new.out.items before c.in_err-add_line.ensures.err)
 
 pub returns-clause-ok : goal.returns-clause-ok
 returns-clause-ok c =
@@ -31,7 +35,8 @@ returns-clause-ok c =
     let low = c.horizon.ensures.valid.horizon_low in
     let high = c.horizon.ensures.valid.horizon_high in
     let fits : to_z w64 (of_z w64 c.horizon.result) ≡ net.horizon = omega (arith, ints) in
-    let before = joined c.args.out.now.items c.add_header.new.out.items c.add_horizon.new.out.items c.add_agents.new.out.items c.add_places.new.out.items c.add_arcs.new.out.items
+    let before = joined c.args.out.now.items c.add_header.new.out.items c.add_horizon.new.out.items
+    c.add_agents.new.out.items c.add_places.new.out.items c.add_arcs.new.out.items
     (line (codes "mastn") (version_word c.args.version ∷ [])) (line (codes "horizon") (signed_decimal net.horizon ∷ []))
     (flat_map agent_line net.agents) (place_lines net 1 net.places net.acts) (flat_map (arc_line net) net.given)
     (c.in_ok-add_header.ensures.ok ∙ ap (λ (o : List ℕ). o ++ line (codes "mastn") (version_word c.args.version ∷ [])) c.in_ok-reserve.ensures.items)

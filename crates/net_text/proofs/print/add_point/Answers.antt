@@ -17,4 +17,5 @@ returns-clause-ok c =
     let second = c.point_name.ensures ∙ point_name_is c.args.net.now c.args.point.0 c.requires.not_z in
     c.in_ok-add_line.ensures.ok
     ∙ ap (λ (n : List ℕ). c.args.out.now.items ++ line (codes "point") (n ∷ c.point_name.result.now ∷ [])) first
-    ∙ ap (λ (n : List ℕ). c.args.out.now.items ++ line (codes "point") (agent_name_of c.args.net.now (get_or c.args.net.now.places (c.args.point.0 - 1) no_place).owner ∷ n ∷ [])) second
+    ∙ ap (λ (n : List ℕ). c.args.out.now.items ++ line (codes "point")
+    (agent_name_of c.args.net.now (get_or c.args.net.now.places (c.args.point.0 - 1) no_place).owner ∷ n ∷ [])) second
