@@ -19,3 +19,4 @@ pub mod SkippedLines
 pub mod PlaceLines
 pub mod BoundLines
 pub mod Scanned
+pub mod Stops

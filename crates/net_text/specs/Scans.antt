@@ -1,5 +1,5 @@
--- Lines that are cut into fields in one pass: is_plain, IsScanned, IsCut, IsStep.
-use Rattle.std.specs.Prelude.{◌≡◌, ℕ, Bool, true, false, List, ◌∷◌, ◌++◌, ◌&&◌, nat_le}
+-- Lines that are cut into fields in one pass: is_plain, is_stop, HasFields, IsScanned, IsCut, IsStep.
+use Rattle.std.specs.Prelude.{◌≡◌, ℕ, Bool, true, false, not, List, ◌∷◌, ◌++◌, ◌&&◌, nat_le}
 use Rattle.net_text.specs.declared.stage.Stage.{Stage}
 use Rattle.net_text.specs.declared.stage.Next.{Next}
 use Rattle.net_text.specs.Fields.{fields}
@@ -10,6 +10,10 @@ use Rattle.net_text.specs.Adding.{Takes}
 -- a byte from `$` to `~`: printable, no space, and not `#`, which may begin a comment
 abbrev pub is_plain : ℕ → Bool
 is_plain b = nat_le 36 b && nat_le b 126
+
+-- a byte that ends a run of plain bytes
+abbrev pub is_stop : ℕ → Bool
+is_stop b = not (is_plain b)
 
 -- a line of text, which is not skipped, and its fields
 pub record HasFields (line : List ℕ) (fs : List (List ℕ)) : Type 0 where

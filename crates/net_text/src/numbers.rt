@@ -1,5 +1,5 @@
 //! Numbers in a text.
-ghost use Rattle.std.specs.Prelude.{◌≡◌, ◌≤◌, pos, true, length};
+ghost use Rattle.std.specs.Prelude.{◌≡◌, ◌≤◌, ◌<◌, ◌^◌, pos, length, Some, None, IfSome, if◌then◌else◌};
 ghost use Rattle.std.specs.List.{list_all};
 ghost use Rattle.std.specs.Char.{is_ascii_digit};
 ghost use Rattle.std.specs.Str.Parse.{digits_value};
@@ -23,28 +23,27 @@ pub fn number_of(field: &[u8]) -> Option<i64>
 fn magnitude_of(digits: &[u8]) -> Option<i64>
     ensures { result ≡ option_map pos (magnitude_of digits.now) }
 {
-    if digits.is_empty() || digits.len() > 18 || !are_digits(digits) {
+    if digits.is_empty() || digits.len() > 18 {
         return None;
     }
-    Some(value_of(digits))
+    let Some(value) = value_of(digits) else {
+        return None;
+    };
+    Some(value as i64)
 }
 
-/// Whether each byte is a digit.
-fn are_digits(bytes: &[u8]) -> bool
-    ensures { result ≡ list_all is_ascii_digit bytes.now }
-{
-    bytes.iter().all(|byte| byte.is_ascii_digit())
-}
-
-/// The number that at most 18 digits write.
-fn value_of(digits: &[u8]) -> i64
-    requires few { length digits.now ≤ 18 }
-    requires digits { list_all is_ascii_digit digits.now ≡ true }
-    ensures { result ≡ pos (digits_value 10 digits.now) }
+/// The number that at most 18 bytes write, where each of them is a digit.
+fn value_of(bytes: &[u8]) -> Option<u64>
+    requires { length bytes.now ≤ 18 }
+    ensures value { result ≡ (if list_all is_ascii_digit bytes.now then Some (digits_value 10 bytes.now) else None) }
+    ensures below { IfSome result (λ v. v < 10 ^ 18) }
 {
     let mut value: u64 = 0;
-    for digit in digits {
-        value = value * 10 + u64::from(*digit - b'0');
+    for byte in bytes {
+        if !byte.is_ascii_digit() {
+            return None;
+        }
+        value = value * 10 + u64::from(*byte - b'0');
     }
-    value as i64
+    Some(value)
 }

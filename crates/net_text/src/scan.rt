@@ -1,7 +1,13 @@
 //! A line that is written plainly, cut into its fields in one pass over its bytes.
 ghost use Rattle.std.specs.Prelude.{◌≡◌, ◌≤◌, true, map, take, length, IfSome};
 ghost use Rattle.std.specs.List.{list_all};
-ghost use Rattle.net_text.specs.Scans.{is_plain, IsScanned};
+ghost use Rattle.std.specs.Simd.Lanes.{mask_l};
+ghost use Rattle.net_text.specs.Scans.{is_plain, is_stop, IsScanned};
+
+use std::simd::prelude::*;
+
+/// How many bytes are looked at in one step.
+const LANES: usize = 16;
 
 /// A line that was cut: how many fields it has, and what follows its line feed.
 #[derive(Clone, Copy)]
@@ -46,7 +52,34 @@ fn plain_front(bytes: &[u8]) -> usize
     ensures within { result ≤ length bytes.now }
     ensures plain { list_all is_plain (take result bytes.now) ≡ true }
 {
-    for at in 0..bytes.len() {
+    let mut at = 0;
+    while bytes.len() - at >= LANES {
+        let stops = stops(u8x16::from_slice(&bytes[at..]));
+        if stops != 0 {
+            return at + stops.trailing_zeros() as usize;
+        }
+        at += LANES;
+    }
+    plain_end(bytes, at)
+}
+
+/// Of 16 bytes those that are not from `$` to `~`: a bit for each, the lowest for the first byte.
+fn stops(lanes: u8x16) -> u64
+    ensures { result ≡ mask_l (map is_stop lanes) }
+{
+    (lanes - u8x16::splat(b'$'))
+        .simd_gt(u8x16::splat(b'~' - b'$'))
+        .to_bitmask()
+}
+
+/// How many bytes from `$` to `~` stand at the front, where so many do.
+fn plain_end(bytes: &[u8], from: usize) -> usize
+    requires within { from ≤ length bytes.now }
+    requires plain { list_all is_plain (take from bytes.now) ≡ true }
+    ensures within { result ≤ length bytes.now }
+    ensures plain { list_all is_plain (take result bytes.now) ≡ true }
+{
+    for at in from..bytes.len() {
         if !is_plain(bytes[at]) {
             return at;
         }

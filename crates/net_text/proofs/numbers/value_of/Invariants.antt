@@ -1,7 +1,6 @@
--- The value of the digits so far.
-use Rattle.std.proofs.Common.{◌≡◌, take}
-use Rattle.std.specs.Str.Parse.{digits_value}
+-- The bytes so far are digits, and their value.
+use Rattle.net_text.proofs.Digits.{IsRead}
 use Rattle.net_text.proofs.numbers.value_of.Given as goal
 
-abbrev pub invariant-loop-digit : goal.invariant-loop-digit
-invariant-loop-digit l = l.value ≡ digits_value 10 (take l.digit-index l.digits)
+abbrev pub invariant-loop-byte : goal.invariant-loop-byte
+invariant-loop-byte l = IsRead l.bytes l.byte-index l.value

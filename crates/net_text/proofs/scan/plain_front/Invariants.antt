@@ -1,8 +1,10 @@
 -- The bytes so far are plain.
-use Rattle.std.proofs.Common.{◌≡◌, true, take}
-use Rattle.std.specs.List.{list_all}
-use Rattle.net_text.specs.Scans.{is_plain}
+use Rattle.std.proofs.Common.{◌-◌, length}
+use Rattle.net_text.proofs.Stops.{IsFront}
 use Rattle.net_text.proofs.scan.plain_front.Given as goal
 
 abbrev pub invariant-loop-at : goal.invariant-loop-at
-invariant-loop-at l = list_all is_plain (take l.at l.bytes) ≡ true
+invariant-loop-at l = IsFront l.bytes l.at
+
+abbrev pub decreases-loop-at : goal.decreases-loop-at
+decreases-loop-at l = length l.bytes - l.at
