@@ -9,6 +9,7 @@ pub mod ReducedInside
 pub mod Parts
 pub mod Reductions
 pub mod Backs
+pub mod Throughs
 pub mod Held
 pub mod Laws
 pub mod SummaryRows

@@ -6,8 +6,10 @@ ghost use Rattle.elim_step.specs.Eliminated.{point_at};
 ghost use Rattle.private_elim.specs.Locals.{is_private_in};
 ghost use Rattle.private_elim.specs.Backs.{bound_between, IsPrivatePair, HoldsFinals, IsLeastIn};
 ghost use Rattle.private_elim.specs.Parts.{OfPart};
+ghost use Rattle.private_elim.specs.ReducedViews.{IsReduced};
 ghost use Rattle.private_elim.specs.SummaryRows.{joined_at};
 ghost use Rattle.private_elim.specs.Sweeps.{HasRoomAll, IsSwept};
+ghost use Rattle.private_elim.specs.Throughs.{CameThrough};
 
 use crate::back::{Bounds, PrivateBounds};
 use crate::back_start::{give_finals, points_by_place, private_places, seen_places};
@@ -141,6 +143,9 @@ impl<R: Rows> Elimination<R> {
         ensures least { IfOk result (λ b. OfPart self.now.local (λ net. HoldsFinals net self.now.local.agent entries
             → (summary : List SummaryEntry) (i j : ℕ) → IsPrivatePair (record { local = self.now.local; order = self.now.order; summary = summary }) i j
             → IsLeastIn net i j (bound_between b i j))) }
+        ensures through { IfOk result (λ b. (summary : List SummaryEntry) → IsReduced self.now.local self.now.order summary
+            → (i j : ℕ) → is_some (bound_between b i j) ≡ true
+            → CameThrough (record { local = self.now.local; order = self.now.order; summary = summary }) entries b i j) }
     {
         let entries = finals.entries();
         let points = points_by_place(alloc, &self.local)?;
@@ -168,6 +173,9 @@ impl<R: Rows> Elimination<R> {
         ensures least { IfOk result (λ b. OfPart self.now.local (λ net. HoldsFinals net self.now.local.agent finals.now
             → (summary : List SummaryEntry) (i j : ℕ) → IsPrivatePair (record { local = self.now.local; order = self.now.order; summary = summary }) i j
             → IsLeastIn net i j (bound_between b i j))) }
+        ensures through { IfOk result (λ b. (summary : List SummaryEntry) → IsReduced self.now.local self.now.order summary
+            → (i j : ℕ) → is_some (bound_between b i j) ≡ true
+            → CameThrough (record { local = self.now.local; order = self.now.order; summary = summary }) finals.now b i j) }
     {
         self.sweep::<Brand>(alloc, finals, rows, Blank::new(1))
     }
@@ -184,6 +192,7 @@ pub fn back_sweep(
     ensures only { IfOk result (λ b. (i j : ℕ) → is_some (bound_between b i j) ≡ true → IsPrivatePair reduced.now i j) }
     ensures least { IfOk result (λ b. OfPart reduced.now.local (λ net. HoldsFinals net reduced.now.local.agent finals.now
         → (i j : ℕ) → IsPrivatePair reduced.now i j → IsLeastIn net i j (bound_between b i j))) }
+    ensures through { IfOk result (λ b. (i j : ℕ) → is_some (bound_between b i j) ≡ true → CameThrough reduced.now finals.now b i j) }
 {
     // The summary is not read: with it comes the fact that all private points are taken.
     let _summary = reduced.summary();

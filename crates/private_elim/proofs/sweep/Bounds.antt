@@ -1,18 +1,18 @@
 -- What contracts see of private bounds.
 --   rises-from_pairs, pairs-from_rises   lists that rise, in two forms
---   upto-at                              a value of a map written out
+--   upto-length, upto-at                 a map written out: its length, and its values
 --   cell_is, cell_found                  the cell between two places, and between two points
 --   view_same                            equal fields are seen as equal
-use Rattle.std.proofs.Common.{zero, suc, ◌≡◌, ◌≢◌, ℕ, ◌<◌, List, [], ◌∷◌, ◌++◌, length, Option, Some, None, Bool, true, false, ◌||◌, refl, sym, ap, ◌∙◌, subst, arith}
+use Rattle.std.proofs.Common.{zero, suc, ◌≡◌, ℕ, ◌<◌, List, [], ◌∷◌, ◌++◌, length, Option, Some, None, Bool, refl, sym, ap, ◌∙◌, arith}
 use Rattle.std.proofs.Common.{inl, inr}
-use Rattle.std.specs.Prelude.{slice_index_or, if◌then◌else◌}
+use Rattle.std.specs.Prelude.{slice_index_or}
 use Rattle.std.specs.List.{AllPairs}
 use Rattle.std.proofs.lemmas.Bool.{cases_eq}
 use Rattle.std.proofs.lemmas.List.{get_or_default, get_or_append_left}
 use Rattle.std.proofs.Math.Seq.{get_or-append_seam}
 use Rattle.std.proofs.lemmas.List.{length-append}
 use Rattle.dist_rows.specs.declared.cell.Cell.{Cell}
-use Rattle.private_elim.specs.Backs.{upto, BoundsView, private_cells, bounds_view, cell_in}
+use Rattle.private_elim.specs.Backs.{upto, private_cells, bounds_view, cell_in}
 use Rattle.private_elim.specs.Locals.{place_in}
 use Rattle.private_elim.proofs.locals.Places.{Rises}
 
@@ -28,7 +28,7 @@ pairs-from_rises xs h i j d lt within =
     omega arith
 
 -- a map written out
-upto-length : {X : Type 0} (f : ℕ → X) (n : ℕ) → length (upto f n) ≡ n
+pub upto-length : {X : Type 0} (f : ℕ → X) (n : ℕ) → length (upto f n) ≡ n
 upto-length f zero = refl
 upto-length f (suc n) = omega (arith, length-append (upto f n) (f n ∷ []), upto-length f n)
 

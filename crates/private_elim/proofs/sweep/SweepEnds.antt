@@ -3,7 +3,7 @@
 --   swept_first      no private point is revisited
 --   swept_only, swept_least   all of them are
 use Rattle.std.proofs.Common.{◌≡◌, ◌≢◌, ℕ, ◌+◌, ◌-◌, ◌*◌, ◌<◌, ◌≤◌, List, [], ◌∷◌, Bool, true, false, ◌||◌, not, Option, Some, None, length, reverse}
-use Rattle.std.proofs.Common.{refl, sym, ap, subst, ◌∙◌, arith, inl, inr}
+use Rattle.std.proofs.Common.{refl, sym, ap, subst, ◌∙◌, arith, inl, inr, ◌⊎◌}
 use Rattle.std.specs.Prelude.{ℤ, is_some, IfSome, nat_abs, slice_index_or, if◌then◌else◌}
 use Rattle.std.specs.List.{AllByRecursion, Contains}
 use Rattle.std.proofs.lemmas.Bool.{false≢true, not-true, false_from_ne_true}
@@ -31,7 +31,7 @@ use Rattle.private_elim.specs.Taken.{IsTaken}
 use Rattle.elim_step.specs.Summaries.{entry_in}
 use Rattle.private_elim.specs.Parts.{HasPart}
 use Rattle.private_elim.specs.Backs.{BoundsView, private_cells, bounds_view, cell_in, bound_between, IsPrivatePair, HoldsFinals, IsLeastIn}
-use Rattle.private_elim.specs.Sweeps.{HasGiven, IsSwept}
+use Rattle.private_elim.specs.Sweeps.{HasGiven, LeavesAt, ArrivesAt, IsSwept}
 use Rattle.private_elim.proofs.locals.Places.{place_found, place_contained}
 use Rattle.private_elim.proofs.locals.Owned.{points_below}
 use Rattle.private_elim.proofs.locals.LocalFacts.{place_of_point_at, arc_joins}
@@ -39,6 +39,7 @@ use Rattle.private_elim.proofs.locals.PartNetworks.{private_of_part, seen_of_par
 use Rattle.private_elim.proofs.summary.Entries.{entry_light}
 use Rattle.private_elim.proofs.sweep.Bounds.{cell_is}
 use Rattle.private_elim.proofs.sweep.SweepParts.{order_private}
+use Rattle.private_elim.proofs.sweep.Throughs.{unless_some}
 use Rattle.private_elim.proofs.taking.Takes.{private_at_is}
 
 module _ (v : LocalView) (order : List ℕ) (f : ℕ → ℕ → Option Cell) (joined : ℕ → ℕ → Bool) (remain : List Bool) (t : IsTaken v order f joined remain) where
@@ -153,6 +154,11 @@ module _ (v : LocalView) (order : List ℕ) (f : ℕ → ℕ → Option Cell) (j
             let places = given.only p q some in
             absurd (false≢true (sym (λ s. places.from_seen s || places.to_seen s) ∙ private));
         light = light_first;
+        given = given.weights;
+        came = λ p q private.
+            unless_some (λ c. LeavesAt v order at p q c ⊎ ArrivesAt v order at p q c) (at p q) (λ some.
+            let places = given.only p q some in
+            false≢true (sym (λ s. places.from_seen s || places.to_seen s) ∙ private));
         least = least_first;
       }
 
@@ -163,11 +169,11 @@ module _ (v : LocalView) (order : List ℕ) (f : ℕ → ℕ → Option Cell) (j
     abbrev b : BoundsView
     b = bounds_view points private at
 
-    private_pair : (p q : ℕ) → p < length v.points → q < length v.points
+    pub private_pair : (p q : ℕ) → p < length v.points → q < length v.points
         → (slice_index_or private p false || slice_index_or private q false) ≡ (private_at v p || private_at v q)
     private_pair p q lp lq = (λ i. flags p lp i || flags q lq i)
 
-    private_points : (p q : ℕ) → p < length v.points → q < length v.points
+    pub private_points : (p q : ℕ) → p < length v.points → q < length v.points
         → (is_private_in v (point_at v.points p) || is_private_in v (point_at v.points q)) ≡ (private_at v p || private_at v q)
     private_points p q lp lq = (λ i. private_at_is v t.known p lp i || private_at_is v t.known q lq i)
 
@@ -177,7 +183,7 @@ module _ (v : LocalView) (order : List ℕ) (f : ℕ → ℕ → Option Cell) (j
     some_weight (Some c) h = refl
 
     -- the cell between two places
-    cell_at : (p q : ℕ) → p < length v.points → q < length v.points → cell_in b (Some p) (Some q) ≡ private_cells private at p q
+    pub cell_at : (p q : ℕ) → p < length v.points → q < length v.points → cell_in b (Some p) (Some q) ≡ private_cells private at p q
     cell_at p q lp lq = let many : length points ≡ length v.points = ap length same in cell_is points private at p q (omega arith) (omega arith)
 
     only_places : (p q : ℕ) → p < length v.points → q < length v.points → is_some (weight_at (private_cells private at p q)) ≡ true
@@ -226,27 +232,53 @@ module _ (v : LocalView) (order : List ℕ) (f : ℕ → ℕ → Option Cell) (j
     below_count net part p lp =
         subst (λ ps. point_at ps p < point_count net) (sym part.points) (points_below net v.agent p 0 (omega (arith, ap length part.points)))
 
-    pub swept_least : (net : Net) → IsNetwork net → HasPart net v → HoldsFinals net v.agent entries
-        → (i j : ℕ) → IsPrivatePair (record { local = v; order = order; summary = summary }) i j → IsLeastIn net i j (bound_between b i j)
-    swept_least net valid part holds i j pair =
-        let joins = pair.joined in
-        let ends = path_ends i j joins.inner joins.path in
+    -- a joined pair of which one point is private stands at two places, and its bound is their final cell's weight
+    pub record PairPlaces (i j : ℕ) : Type 0 where
+      pub start : ℕ
+      pub end : ℕ
+      pub start_in : start < length v.points
+      pub end_in : end < length v.points
+      pub is_start : point_at v.points start ≡ i
+      pub is_end : point_at v.points end ≡ j
+      pub owned : (private_at v start || private_at v end) ≡ true
+      pub cell : cell_in b (place_in b.points i) (place_in b.points j) ≡ at start end
+
+    pub pair_places : (i j : ℕ) → IsPrivatePair (record { local = v; order = order; summary = summary }) i j → PairPlaces i j
+    pair_places i j pair =
+        let ends = path_ends i j pair.joined.inner pair.joined.path in
         let from = placed i ends.0 in
         let to = placed j ends.1 in
         let p = from.0 in
         let q = to.0 in
         let owned : (private_at v p || private_at v q) ≡ true =
         sym (private_points p q from.1 to.1) ∙ (λ k. is_private_in v (from.2 k) || is_private_in v (to.2 k)) ∙ pair.private in
-        let bound : bound_between b i j ≡ weight_at (at p q) =
-        ap (λ ps. weight_at (cell_in b (place_in ps i) (place_in ps j))) same
-        ∙ (λ k. weight_at (cell_in b (from.3 k) (to.3 k)))
-        ∙ ap weight_at (cell_at p q from.1 to.1 ∙ ap (λ c. if c then at p q else None) (private_pair p q from.1 to.1 ∙ owned)) in
-        let low_i : i < point_count net = subst (λ x. x < point_count net) from.2 (below_count net part p from.1) in
-        let low_j : j < point_count net = subst (λ x. x < point_count net) to.2 (below_count net part q to.1) in
+        record {
+          start = p;
+          end = q;
+          start_in = from.1;
+          end_in = to.1;
+          is_start = from.2;
+          is_end = to.2;
+          owned = owned;
+          cell = ap (λ ps. cell_in b (place_in ps i) (place_in ps j)) same
+              ∙ (λ k. cell_in b (from.3 k) (to.3 k))
+              ∙ cell_at p q from.1 to.1 ∙ ap (λ c. if c then at p q else None) (private_pair p q from.1 to.1 ∙ owned);
+        }
+
+    pub swept_least : (net : Net) → IsNetwork net → HasPart net v → HoldsFinals net v.agent entries
+        → (i j : ℕ) → IsPrivatePair (record { local = v; order = order; summary = summary }) i j → IsLeastIn net i j (bound_between b i j)
+    swept_least net valid part holds i j pair =
+        let joins = pair.joined in
+        let places = pair_places i j pair in
+        let p = places.start in
+        let q = places.end in
+        let low_i : i < point_count net = subst (λ x. x < point_count net) places.is_start (below_count net part p places.start_in) in
+        let low_j : j < point_count net = subst (λ x. x < point_count net) places.is_end (below_count net part q places.end_in) in
         let joined_places : IsJoined (arcs_in v) order (point_at v.points p) (point_at v.points q) =
-        subst (λ x. IsJoined (arcs_in v) order x (point_at v.points q)) (sym from.2) (subst (IsJoined (arcs_in v) order i) (sym to.2) joins) in
-        let least = s.least net valid part holds p q from.1 to.1 (all_done p from.1) (all_done q to.1) joined_places in
+        subst (λ x. IsJoined (arcs_in v) order x (point_at v.points q)) (sym places.is_start) (subst (IsJoined (arcs_in v) order i) (sym places.is_end) joins) in
+        let least = s.least net valid part holds p q places.start_in places.end_in (all_done p places.start_in) (all_done q places.end_in) joined_places in
         let least_walk : IsInnerLeast every (arcs_of net) i j (weight_at (at p q)) =
-        subst (λ x. IsInnerLeast every (arcs_of net) x j (weight_at (at p q))) from.2
-        (subst (λ y. IsInnerLeast every (arcs_of net) (point_at v.points p) y (weight_at (at p q))) to.2 least) in
-        subst (IsLeastIn net i j) (sym bound) (least_there net valid holds.consistent i j low_i low_j joins.different (weight_at (at p q)) least_walk)
+        subst (λ x. IsInnerLeast every (arcs_of net) x j (weight_at (at p q))) places.is_start
+        (subst (λ y. IsInnerLeast every (arcs_of net) (point_at v.points p) y (weight_at (at p q))) places.is_end least) in
+        subst (IsLeastIn net i j) (ap weight_at (sym places.cell))
+        (least_there net valid holds.consistent i j low_i low_j joins.different (weight_at (at p q)) least_walk)

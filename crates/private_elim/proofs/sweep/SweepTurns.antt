@@ -1,5 +1,5 @@
 -- One turn of a back sweep, in the fields of an elimination: Turn, and what a revisit asks and gives there.
-use Rattle.std.proofs.Common.{◌≡◌, ◌≢◌, ℕ, ◌+◌, ◌<◌, ◌≤◌, List, Bool, true, false, ◌&&◌, not, Option, Some, None, length, map, set, reverse, sym, ap}
+use Rattle.std.proofs.Common.{◌≡◌, ◌≢◌, ℕ, ◌+◌, ◌<◌, ◌≤◌, List, Bool, true, false, ◌&&◌, not, Option, Some, None, length, set, reverse, sym, ap}
 use Rattle.std.proofs.Common.{subst, ◌∙◌, arith}
 use Rattle.std.specs.Prelude.{IfSome, is_some, nat_abs, slice_index_or}
 use Rattle.std.proofs.lemmas.Bool.{and_parts}

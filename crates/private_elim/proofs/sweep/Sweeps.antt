@@ -4,15 +4,15 @@
 --   some_later, not_later, no_cells, finals_light   what a revisit asks
 --   swept_more       what it gives
 use Rattle.std.proofs.Common.{◌≡◌, ◌≢◌, ℕ, ◌+◌, ◌-◌, ◌*◌, ◌<◌, ◌≤◌, List, [], ◌∷◌, Bool, true, false, ◌&&◌, ◌||◌, not, Option, Some, None, length}
-use Rattle.std.proofs.Common.{take, drop, set, reverse, refl, sym, ap, subst, ◌∙◌, arith, inl, length-set, get_or-set_same, get_or-set_other}
-use Rattle.std.specs.Prelude.{pos, ◌==◌, is_some, IfSome, nat_abs, if◌then◌else◌}
-use Rattle.std.proofs.lemmas.Bool.{false≢true, eqb-true, eqb-false, eq-eqb, and_parts, and_from, or_right, not-true, false_from_ne_true}
+use Rattle.std.proofs.Common.{take, drop, set, reverse, refl, sym, ap, subst, ◌∙◌, arith, inl, inr, ◌⊎◌, length-set, get_or-set_same, get_or-set_other}
+use Rattle.std.specs.Prelude.{ℤ, pos, ◌==◌, is_some, IfSome, nat_abs, if◌then◌else◌}
+use Rattle.std.proofs.lemmas.Bool.{false≢true, eqb-true, eqb-false, eq-eqb, ne_eqb, and_parts, and_from, or_right, not-true, false_from_ne_true}
 use Rattle.std.proofs.lemmas.Int.{ints}
 use Rattle.stn_model.specs.Limits.{greatest_walk, most_points}
 use Rattle.stn_model.specs.Net.{Net, arcs_of, point_count}
 use Rattle.stn_model.specs.Valid.{IsNetwork}
 use Rattle.stn_model.specs.ArcWalks.{IsInnerLeast}
-use Rattle.stn_model.specs.Joined.{IsJoined}
+use Rattle.stn_model.specs.Joined.{ComesBefore, IsJoined}
 use Rattle.stn_model.proofs.ArcLemmas.{lower_arc}
 use Rattle.stn_walk.specs.Eliminations.{is_in, before_both}
 use Rattle.stn_walk.specs.Joins.{joined_of}
@@ -26,13 +26,14 @@ use Rattle.dist_rows.specs.Cells.{IsLight, AllLight}
 use Rattle.elim_step.specs.declared.summary.SummaryEntry.{SummaryEntry}
 use Rattle.elim_step.specs.Eliminates.{remains, sum_through}
 use Rattle.elim_step.specs.Eliminated.{weight_at, point_at}
-use Rattle.elim_step.specs.Revisits.{reach_of, out_sum, in_sum, IsLeastSum, Revisits}
+use Rattle.elim_step.specs.Revisits.{reach_to, reach_of, out_sum, in_sum, IsLeastSum, Revisits}
+use Rattle.elim_step.specs.Summaries.{entry_in}
 use Rattle.elim_step.proofs.FinalWeights.{Prepared, finals_are_least}
 use Rattle.private_elim.specs.Locals.{LocalView, arcs_in, private_at, is_private_in}
 use Rattle.private_elim.specs.Taken.{IsTaken}
 use Rattle.private_elim.specs.Parts.{HasPart}
 use Rattle.private_elim.specs.Backs.{HoldsFinals}
-use Rattle.private_elim.specs.Sweeps.{IsSwept}
+use Rattle.private_elim.specs.Sweeps.{IsSeenPlaces, LeavesAt, ArrivesAt, CameAt, IsSwept}
 use Rattle.private_elim.proofs.locals.Places.{place_nowhere}
 use Rattle.private_elim.proofs.locals.LocalFacts.{some_point, z_first, lower_contained}
 use Rattle.private_elim.proofs.taking.TakenFacts.{none_from_strange, none_to_strange}
@@ -42,6 +43,7 @@ use Rattle.stn_walk.proofs.Members.{is_in-first, is_in-rest}
 use Rattle.private_elim.proofs.taking.Orders.{before-behind}
 use Rattle.private_elim.proofs.walks.OwnWalks.{from_private, to_private, least_from_private, least_to_private}
 use Rattle.private_elim.proofs.sweep.SweepParts.{points_apart, joined_in_order, order_joins, joined_turned, left, cut, fresh, in_prefix, left_private}
+use Rattle.private_elim.proofs.sweep.Throughs.{sum_parts, comes_first, some_weight, some_of}
 use Rattle.private_elim.proofs.sweep.SweepParts.{here_private, none_left, cell_out, cell_back, join_out, cells_apart}
 
 -- what holds of the pairs that a revisit sets, and of all others, holds of all pairs
@@ -311,6 +313,120 @@ module _ (v : LocalView) (order : List ℕ) (f : ℕ → ℕ → Option Cell) (j
         (λ p q no_out no_back. subst (λ o. IfSome o (λ c. nat_abs c.weight ≤ more)) (sym (r.others p q no_out no_back))
         (weaker bound more (at p q) (omega arith) (s.light p q)))
 
+    -- cells that k has no part in stay
+    cell_stays : (p q : ℕ) → p ≢ k → q ≢ k → after p q ≡ at p q
+    cell_stays p q no_p no_q = r.others p q (ap (λ b. b && is_in later q) (ne_eqb p k no_p)) (ap (λ b. b && is_in later p) (ne_eqb q k no_q))
+
+    cell_away : (p q : ℕ) → is_some (at p q) ≡ true → (p ≢ k) × (q ≢ k)
+    cell_away p q some =
+        let were = s.ends p q some in (
+          λ same. false≢true (sym not_done ∙ ap (remains done) (sym same) ∙ were.0),
+          λ same. false≢true (sym not_done ∙ ap (remains done) (sym same) ∙ were.1),
+        )
+
+    seen_away : (p : ℕ) → private_at v p ≡ false → p ≢ k
+    seen_away p seen same =
+        false≢true (sym seen ∙ ap (private_at v) same ∙ sym (private_at_is v t.known k lk) ∙ here_private v order f joined remain t n k lt lk is)
+
+    given_more : (p q : ℕ) → IsSeenPlaces v p q → weight_at (after p q) ≡ entry_in entries (point_at v.points p) (point_at v.points q)
+    given_more p q seen =
+        ap weight_at (cell_stays p q (seen_away p seen.from_seen) (seen_away q seen.to_seen)) ∙ s.given p q seen
+
+    -- the point of k comes before those of later places
+    later_after : (m : ℕ) → is_in later m ≡ true → ComesBefore order (point_at v.points k) (point_at v.points m)
+    later_after m h =
+        comes_first order (reverse (drop (n + 1) order)) (point_at v.points k) before (point_at v.points m)
+        (cut v order f joined remain t n k lt lk is) (done_outside m (within m h) (later_done m h).0)
+
+    reach_stays : (p q : ℕ) → p ≢ k → q ≢ k → weight_at (reach_of after p q) ≡ weight_at (reach_of at p q)
+    reach_stays p q no_p no_q = ap (λ o. weight_at (reach_to p q o)) (cell_stays p q no_p no_q)
+
+    -- the cells that the revisit sets came through a later place
+    leaves_more : (q : ℕ) → is_in later q ≡ true → (o : Option Cell) → IsLeastSum (out_sum f at k q) later o → IfSome o (LeavesAt v order after k q)
+    leaves_more q h None least = tt
+    leaves_more q h (Some c) least =
+        let m = least.0.0 in
+        let here = least.0.1 in
+        let parts = sum_parts m (f k m) (reach_of at m q) c least.0.2 in
+        record {
+          place = m;
+          within = within m here;
+          via = parts.via;
+          first = later_after q h;
+          later = later_after m here;
+          weight = parts.first;
+          forward = sym (t.cells.cells k m lk (within m here) (λ e. later_other m here (sym e))) ∙ parts.is_first;
+          rest = parts.second;
+          onward = reach_stays m q (later_other m here) (later_other q h) ∙ parts.is_second;
+          sum = parts.sum;
+        }
+
+    arrives_more : (p : ℕ) → is_in later p ≡ true → (o : Option Cell) → IsLeastSum (in_sum f at k p) later o → IfSome o (ArrivesAt v order after p k)
+    arrives_more p h None least = tt
+    arrives_more p h (Some c) least =
+        let m = least.0.0 in
+        let here = least.0.1 in
+        let parts = sum_parts m (reach_of at p m) (f m k) c least.0.2 in
+        record {
+          place = m;
+          within = within m here;
+          via = parts.via;
+          first = later_after p h;
+          later = later_after m here;
+          weight = parts.second;
+          forward = sym (t.cells.cells m k (within m here) lk (later_other m here)) ∙ parts.is_second;
+          rest = parts.first;
+          onward = reach_stays p m (later_other p h) (later_other m here) ∙ parts.is_first;
+          sum = parts.sum;
+        }
+
+    -- and the others as before
+    onward_stays : (p q : ℕ) (w : ℤ) → weight_at (reach_of at p q) ≡ Some w → weight_at (reach_of after p q) ≡ Some w
+    onward_stays p q w is_w =
+        let nought : Option Cell = Some (record { weight = pos 0; via = Given 0 }) in
+        elim (p == q) as (λ b. weight_at (if b then nought else at p q) ≡ Some w → weight_at (if b then nought else after p q) ≡ Some w) [
+          | true ↦ λ h. h
+          | false ↦ λ h. let away = cell_away p q (some_weight (at p q) w h) in ap weight_at (cell_stays p q away.0 away.1) ∙ h
+        ] is_w
+
+    came_stays : (p q : ℕ) (c : Cell) → LeavesAt v order at p q c ⊎ ArrivesAt v order at p q c → LeavesAt v order after p q c ⊎ ArrivesAt v order after p q c
+    came_stays p q c (inl h) = inl (record {
+      place = h.place;
+      within = h.within;
+      via = h.via;
+      first = h.first;
+      later = h.later;
+      weight = h.weight;
+      forward = h.forward;
+      rest = h.rest;
+      onward = onward_stays h.place q h.rest h.onward;
+      sum = h.sum;
+    })
+    came_stays p q c (inr h) = inr (record {
+      place = h.place;
+      within = h.within;
+      via = h.via;
+      first = h.first;
+      later = h.later;
+      weight = h.weight;
+      forward = h.forward;
+      rest = h.rest;
+      onward = onward_stays p h.place h.rest h.onward;
+      sum = h.sum;
+    })
+
+    came_more : (p q : ℕ) → (private_at v p || private_at v q) ≡ true → CameAt v order after p q
+    came_more =
+        by_pair k later (λ p q. (private_at v p || private_at v q) ≡ true → CameAt v order after p q)
+        (λ q h private. some_of (LeavesAt v order after k q) (λ c. LeavesAt v order after k q c ⊎ ArrivesAt v order after k q c) (after k q) (λ c g. inl g)
+        (leaves_more q h (after k q) (r.out q h)))
+        (λ p h private. some_of (ArrivesAt v order after p k) (λ c. LeavesAt v order after p k c ⊎ ArrivesAt v order after p k c) (after p k) (λ c g. inr g)
+        (arrives_more p h (after p k) (r.back p h)))
+        (λ p q no_out no_back private.
+        subst (λ o. IfSome o (λ c. LeavesAt v order after p q c ⊎ ArrivesAt v order after p q c)) (sym (r.others p q no_out no_back))
+        (some_of (λ c. LeavesAt v order at p q c ⊎ ArrivesAt v order at p q c) (λ c. LeavesAt v order after p q c ⊎ ArrivesAt v order after p q c) (at p q)
+        (came_stays p q) (s.came p q private)))
+
     is_later : (q : ℕ) → q < length v.points → q ≢ k → remains (set done k true) q ≡ true → joined k q ≡ true → is_in later q ≡ true
     is_later q lq other is_done joins = each q ∙ and_from (remains done q) (joined k q) (was_done q other is_done) joins
 
@@ -345,5 +461,7 @@ module _ (v : LocalView) (order : List ℕ) (f : ℕ → ℕ → Option Cell) (j
       ends = ends_more;
       pairs = pairs_more;
       light = light_more;
+      given = given_more;
+      came = came_more;
       least = least_more;
     }

@@ -1,4 +1,4 @@
-use Rattle.std.proofs.Common.{◌≡◌, ℕ, true, length, take}
+use Rattle.std.proofs.Common.{◌≡◌, ℕ, true, take}
 use Rattle.private_elim.specs.Sweeps.{HasGiven}
 use Rattle.private_elim.proofs.back_start.give_finals.Given as goal
 

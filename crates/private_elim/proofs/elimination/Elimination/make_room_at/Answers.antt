@@ -1,11 +1,8 @@
-use Rattle.std.proofs.Common.{◌≡◌, ℕ, true, false, ◌&&◌, ◌||◌, sym, ap, ◌∙◌, map, rules, arith, length}
-use Rattle.std.specs.Prelude.{◌==◌, not, reverse}
-use Rattle.std.proofs.lemmas.Bool.Decides.{nat_tests}
+use Rattle.std.proofs.Common.{◌≡◌, true, ◌&&◌, ◌∙◌, arith}
 use Rattle.stn_walk.specs.Eliminations.{is_in}
 use Rattle.dist_rows.specs.Places.{lists}
 use Rattle.elim_step.specs.Eliminates.{remains}
 use Rattle.elim_step.specs.JoinedPlaces.{is_joined}
-use Rattle.private_elim.specs.SummaryRows.{joined_at}
 use Rattle.private_elim.proofs.sweep.Rooms.{listed_in, are_within, are_rising, row_room}
 use Rattle.private_elim.proofs.elimination.Elimination.make_room_at.Goals as goal
 

@@ -1,5 +1,5 @@
 use Rattle.std.proofs.Common.{◌≡◌, ◌≤◌, ℕ, length}
-use Rattle.private_elim.specs.Sweeps.{HasRoomAll, IsSwept}
+use Rattle.private_elim.specs.Sweeps.{IsSwept}
 use Rattle.private_elim.proofs.elimination.Elimination.revisit_all.Given as goal
 
 abbrev pub ghost-revisit : goal.ghost-revisit

@@ -5,6 +5,7 @@ use Rattle.private_elim.specs.Underway.{Fields}
 use Rattle.stn_model.specs.Limits.{most_points}
 use Rattle.private_elim.proofs.locals.LocalFacts.{few_points}
 use Rattle.private_elim.proofs.sweep.SweepEnds.{swept_only, swept_least}
+use Rattle.private_elim.proofs.sweep.SweepThroughs.{are_through, swept_through}
 use Rattle.private_elim.proofs.sweep.SweepTurns.{begins}
 use Rattle.private_elim.proofs.elimination.Elimination.sweep.Goals as goal
 
@@ -44,6 +45,15 @@ revisit_all-requires g c κs known =
 pub invariant_of-result : goal.invariant_of-result
 invariant_of-result g c =
     let i = c.self.inside in
+    let e : Fields = record {
+      local = i.local;
+      order = map (λ p. p.0) i.order.items;
+      places = g.R.Rows.places i.rows;
+      at = g.R.Rows.at i.rows;
+      joins = i.joins;
+      remain = i.remain.items;
+      degrees = i.degrees.items;
+    } in
     let many : length i.local.points ≡ length c.in_ok-points.points.items = ap length (sym c.in_ok-points.ensures.points) in
     let size : g.R.Rows.places c.args.rows ≡ length i.local.points =
     subst (λ (t : TakenView). g.R.Rows.places c.args.rows ≡ length t.local.points) (sym c.self.view_is) c.requires.1.1.1.0 in (
@@ -51,6 +61,10 @@ invariant_of-result g c =
       c.in_ok-private.ensures.len ∙ many,
       c.in_ok-points.ensures.rising,
       subst (λ (xs : List ℕ). length xs ≤ most_points) (sym c.in_ok-points.ensures.points) (few_points i.local c.self.invariant.taken.known),
+      are_through e.local e.order e.at (is_joined e.joins) e.remain c.self.invariant.taken g.entries
+          c.in_ok-points.points.items c.in_ok-private.private.items (g.R.Rows.at c.revisit_all.new.finals)
+          c.in_ok-points.ensures.points c.in_ok-private.ensures.each c.revisit_all.new.done.items
+          (rw (← c.self.view_is) at c.in_ok-revisit_all.ensures.swept),
     )
 
 pub returns-clause-only : goal.returns-clause-only
@@ -86,3 +100,20 @@ returns-clause-least g c net valid part holds summary n m pair =
     c.in_ok-points.points.items c.in_ok-private.private.items (g.R.Rows.at c.revisit_all.new.finals)
     c.in_ok-points.ensures.points c.in_ok-private.ensures.each c.revisit_all.new.done.items (rw (← c.self.view_is) at c.in_ok-revisit_all.ensures.swept)
     net valid (rw (← c.self.view_is) at part) (rw (← c.self.view_is) at holds) n m (rw (← c.self.view_is) at pair)
+
+pub returns-clause-through : goal.returns-clause-through
+returns-clause-through g c summary reduced n m some =
+    let i = c.self.inside in
+    let e : Fields = record {
+      local = i.local;
+      order = map (λ p. p.0) i.order.items;
+      places = g.R.Rows.places i.rows;
+      at = g.R.Rows.at i.rows;
+      joins = i.joins;
+      remain = i.remain.items;
+      degrees = i.degrees.items;
+    } in
+    rw (← c.self.view_is) (swept_through e.local e.order e.at (is_joined e.joins) e.remain c.self.invariant.taken g.entries
+    c.in_ok-points.points.items c.in_ok-private.private.items (g.R.Rows.at c.revisit_all.new.finals)
+    c.in_ok-points.ensures.points c.in_ok-private.ensures.each c.revisit_all.new.done.items
+    (rw (← c.self.view_is) at c.in_ok-revisit_all.ensures.swept) summary (rw (← c.self.view_is) at reduced) n m some)
