@@ -90,10 +90,10 @@ impl<R: Rows> Bounds<R> {
         let Some(cell) = self.cell(i, j) else {
             return None;
         };
-        let Via::Through(place) = cell.via else {
+        let Via::Through(via) = cell.via else {
             unreachable!();
         };
-        Some(self.point(place))
+        Some(self.point(via))
     }
 
     /// The least point above `after`, or of all points where that is None, to which there is a bound from `i`: so the points with a

@@ -23,7 +23,9 @@ above_from first None h m le = tt
 above_from first (Some k) h m le = let is = h.1 in let low = h.0 in omega arith
 
 pub from_above : (first : ℕ) (o : Option ℕ) → SomeIff o (1 ≤ first) (first - 1) → (m : ℕ) → IsAbove m o → first ≤ m
-from_above first None h m above = let zero : 1 ≤ first → ⊥ = h in ⊎_elim (λ (low : 0 < first). absurd (zero low)) (λ (high : first ≤ 0). omega arith) (cases_lt 0 first)
+from_above first None h m above =
+    let none : 1 ≤ first → ⊥ = h in
+    ⊎_elim (λ (low : 0 < first). absurd (none low)) (λ (high : first ≤ 0). omega arith) (cases_lt 0 first)
 from_above first (Some k) h m above = let is = h.1 in let low = h.0 in omega arith
 
 -- what holds of the places before one, and of those from it on, holds of all

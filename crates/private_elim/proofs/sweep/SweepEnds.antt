@@ -275,7 +275,8 @@ module _ (v : LocalView) (order : List ℕ) (f : ℕ → ℕ → Option Cell) (j
         let low_i : i < point_count net = subst (λ x. x < point_count net) places.is_start (below_count net part p places.start_in) in
         let low_j : j < point_count net = subst (λ x. x < point_count net) places.is_end (below_count net part q places.end_in) in
         let joined_places : IsJoined (arcs_in v) order (point_at v.points p) (point_at v.points q) =
-        subst (λ x. IsJoined (arcs_in v) order x (point_at v.points q)) (sym places.is_start) (subst (IsJoined (arcs_in v) order i) (sym places.is_end) joins) in
+        subst (λ x. IsJoined (arcs_in v) order x (point_at v.points q)) (sym places.is_start)
+        (subst (IsJoined (arcs_in v) order i) (sym places.is_end) joins) in
         let least = s.least net valid part holds p q places.start_in places.end_in (all_done p places.start_in) (all_done q places.end_in) joined_places in
         let least_walk : IsInnerLeast every (arcs_of net) i j (weight_at (at p q)) =
         subst (λ x. IsInnerLeast every (arcs_of net) x j (weight_at (at p q))) places.is_start

@@ -69,10 +69,11 @@ module _ (v : LocalView) (order : List ℕ) (f : ℕ → ℕ → Option Cell) (j
         | true ↦ λ is. elim (is_some (at p q)) as (λ b. is_some (at p q) ≡ b → IfSome (at p q) (λ c. IsThrough (length points) c.via)) [
           | true ↦ λ some.
               let ends = s.ends p q some in
+              let lp = done_within p ends.0 in
+              let lq = done_within q ends.1 in
+              let owned = sym (private_pair v order f joined remain t entries entries points private at same flags done s p q lp lq) ∙ is in
               some_of (λ c. LeavesAt v order at p q c ⊎ ArrivesAt v order at p q c) (λ c. IsThrough (length points) c.via) (at p q) (came_through p q)
-              (s.came p q
-              (sym (private_pair v order f joined remain t entries entries points private at same flags done s p q (done_within p ends.0) (done_within q ends.1))
-              ∙ is))
+              (s.came p q owned)
           | false ↦ λ none. unless_some (λ c. IsThrough (length points) c.via) (at p q) (λ some. false≢true (sym none ∙ some))
         ] refl
         | false ↦ λ is. tt
