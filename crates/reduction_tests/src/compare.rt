@@ -48,6 +48,28 @@ pub fn swept(rt: &impl Abort, bounds: &PrivateBounds, told: &[(u32, u32, Option<
     }
 }
 
+/// Compares the points through which bounds came.
+pub fn came(rt: &impl Abort, bounds: &PrivateBounds, told: &[(u32, u32, Option<PointId>)]) {
+    for &(i, j, point) in told {
+        assert_eq!(rt;
+            bounds.through(PointId(i), PointId(j)),
+            point,
+            "from {i} to {j}"
+        );
+    }
+}
+
+/// Compares the points that follow others among those to which a point has bounds.
+pub fn follows(
+    rt: &impl Abort,
+    bounds: &PrivateBounds,
+    told: &[(u32, Option<PointId>, Option<PointId>)],
+) {
+    for &(i, after, point) in told {
+        assert_eq!(rt; bounds.next(PointId(i), after), point, "from {i}");
+    }
+}
+
 /// Compares a conflict with its cycle, the number of points taken before, and the other point.
 pub fn is_conflict(rt: &impl Abort, outcome: PrivateOutcome, arcs: &[u32], taken: u32, with: u32) {
     match outcome {

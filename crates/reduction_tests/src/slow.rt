@@ -4,7 +4,7 @@ ghost use Rattle.private_elim.specs.Locals.{all_numbered};
 
 use crate::build::{by_factor, entry, local_of, reduced, summary_of};
 use crate::calls::in_order;
-use private_elim::{Local, PrivateOutcome, Reduced, back_sweep};
+use private_elim::{Local, PrivateBounds, PrivateOutcome, Reduced, back_sweep};
 use sample_nets::sample;
 use std::alloc::Global;
 use std::process::Abort;
@@ -121,6 +121,67 @@ fn agrees(rt: &impl Abort, alloc: Global, local: &Local, part: &Reduced) -> Resu
     Ok(())
 }
 
+// Whether the first of two points comes before the other in an order.
+fn comes_first(order: &[PointId], i: u32, j: u32) -> bool {
+    for p in order {
+        if p.0 == i || p.0 == j {
+            return p.0 == i;
+        }
+    }
+    false
+}
+
+// The least weight of all walks, which is 0 from a point to itself.
+fn least(all: &[Constraint], i: u32, j: u32) -> Option<i128> {
+    if i == j {
+        return Some(0);
+    }
+    slow(all, i, j, &[true; 8])
+}
+
+// The least weight of walks through m that begin or end with a forward weight, at the one of two points that comes first.
+fn in_parts(
+    own: &[Constraint],
+    all: &[Constraint],
+    order: &[PointId],
+    pair: (u32, u32),
+    m: u32,
+) -> Option<i128> {
+    let (i, j) = pair;
+    if comes_first(order, i, j) {
+        let forward = slow(own, i, m, &before(order, i, m))?;
+        return Some(forward.saturating_add(least(all, m, j)?));
+    }
+    let forward = slow(own, m, j, &before(order, m, j))?;
+    Some(forward.saturating_add(least(all, i, m)?))
+}
+
+// Compares the bounds of a point with those that it has by its look-ups: they are met in order, and each came through a point.
+fn agrees_row(
+    rt: &impl Abort,
+    bounds: &PrivateBounds,
+    arcs: (&[Constraint], &[Constraint]),
+    order: &[PointId],
+    i: u32,
+) {
+    let (own, all) = arcs;
+    let mut last = None;
+    for j in 0..8u32 {
+        let bound = bounds.get(PointId(i), PointId(j));
+        let through = bounds.through(PointId(i), PointId(j));
+        let weight = match through {
+            None => None,
+            Some(m) => in_parts(own, all, order, (i, j), m.0),
+        };
+        assert_eq!(rt; weight, bound, "from {i} to {j}");
+        if bound.is_some() {
+            assert_eq!(rt; bounds.next(PointId(i), last), Some(PointId(j)), "from {i}");
+            last = Some(PointId(j));
+        }
+    }
+    assert_eq!(rt; bounds.next(PointId(i), last), None, "from {i}");
+}
+
 // Compares the least bounds after a back sweep with the slow program's, for a network that has a schedule.
 fn agrees_back(
     rt: &impl Abort,
@@ -130,7 +191,7 @@ fn agrees_back(
     part: &Reduced,
 ) -> Result<(), Fail> {
     let arcs = all_arcs(alloc, net)?;
-    let (_, edges) = arcs_of(alloc, local)?;
+    let (own, edges) = arcs_of(alloc, local)?;
     let all = [true; 8];
     let mut finals = Vec::new(alloc);
     for told in part.summary().entries() {
@@ -149,6 +210,9 @@ fn agrees_back(
             bound,
             "from {i} to {j}"
         );
+    }
+    for i in 0..8u32 {
+        agrees_row(rt, &bounds, (&own, &arcs), part.order(), i);
     }
     Ok(())
 }

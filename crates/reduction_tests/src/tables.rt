@@ -1,7 +1,9 @@
 //! Networks worked by hand.
 use crate::build::{by_degree, by_key, entry, local_of, reduced, summary_of};
 use crate::calls::{in_order, narrowed, walk_of};
-use crate::compare::{has_arcs, has_order, has_walk, is_conflict, swept, tells, weighs};
+use crate::compare::{
+    came, follows, has_arcs, has_order, has_walk, is_conflict, swept, tells, weighs,
+};
 use private_elim::{PrivateBounds, Reduced, back_sweep};
 use sample_nets::{handover, sample};
 use std::alloc::Global;
@@ -78,6 +80,48 @@ fn ann_is_swept_back(rt: HostRuntime) -> Result<(), Fail> {
         (1, 3, None),
     ];
     swept(&rt, &bounds, told.as_slice());
+    Ok(())
+}
+
+// Bob's bounds after the back sweep, from the least bounds of the handover.
+fn bobs_bounds(alloc: Global) -> Result<PrivateBounds, Fail> {
+    let bob = reduced(by_degree(alloc, &handover(alloc)?, 1)?)?;
+    let finals = summary_of(alloc, [entry(0, 3, 65), entry(3, 0, -30)].as_slice())?;
+    Ok(back_sweep(alloc, &bob, &finals)?)
+}
+
+#[test]
+fn bobs_bounds_came_through_points(rt: HostRuntime) -> Result<(), Fail> {
+    let bounds = bobs_bounds(rt.alloc())?;
+    let shared = Some(PointId(3));
+    let told = [
+        (0, 4, shared),
+        (4, 0, shared),
+        (3, 4, shared),
+        (4, 3, shared),
+        (0, 3, None),
+        (4, 4, None),
+        (1, 4, None),
+    ];
+    came(&rt, &bounds, told.as_slice());
+    Ok(())
+}
+
+#[test]
+fn bobs_bounds_are_met_in_order(rt: HostRuntime) -> Result<(), Fail> {
+    let bounds = bobs_bounds(rt.alloc())?;
+    let (zero, shared, private) = (Some(PointId(0)), Some(PointId(3)), Some(PointId(4)));
+    let told = [
+        (4, None, zero),
+        (4, zero, shared),
+        (4, Some(PointId(1)), shared),
+        (4, shared, None),
+        (0, None, private),
+        (0, shared, private),
+        (0, private, None),
+        (1, None, None),
+    ];
+    follows(&rt, &bounds, told.as_slice());
     Ok(())
 }
 
