@@ -4,7 +4,7 @@
 --   row-joined, rooms_left           one list more whose place is joined with all of a list
 --   IsFiltered, filtered-none, filtered-more     the places so far that pass a test
 use Rattle.std.proofs.Common.{zero, suc, ◌≡◌, ◌≢◌, ℕ, ◌+◌, ◌<◌, ◌≤◌, List, Bool, true, false, ◌&&◌, ◌||◌, not, ap, sym, ◌∙◌, refl, length, get_or, set, subst}
-use Rattle.std.proofs.Common.{arith, get_or-set_other, get_or-set_same, length-set, [], ◌∷◌, ◌++◌, inl, inr}
+use Rattle.std.proofs.Common.{add-one, arith, get_or-set_other, get_or-set_same, length-set, [], ◌∷◌, ◌++◌, inl, inr}
 use Rattle.std.specs.Prelude.{◌==◌, if◌then◌else◌, slice_index_or, nat_le, nat_lt}
 use Rattle.std.proofs.lemmas.Bool.Decides.{nat_tests}
 use Rattle.std.proofs.lemmas.Bool.{cases_lt, false≢true}
@@ -263,3 +263,13 @@ count_below-few test zero = omega arith
 count_below-few test (suc n) =
     let few = count_below-few test n in
     elim (test n) as (λ b. (if b then 1 else 0) + count_below test n ≤ suc n) [ true ↦ omega (arith, few) | false ↦ omega (arith, few) ]
+
+-- the places of a list that rises are as many as the numbers below a size that are in it
+pub count_of_list : (xs : List ℕ) (size : ℕ) → AreRisingPlaces xs → ((p : ℕ) → is_in xs p ≡ true → p < size) → length xs ≡ count_below (is_in xs) size
+count_of_list xs size rising within =
+    counted-all (is_in xs) xs (length xs) (length xs) size (up_to (length xs) (omega arith)) (omega arith) within (omega arith) where
+      up_to : (n : ℕ) → n ≤ length xs → IsCounted (is_in xs) xs n n
+      up_to zero few = counted-none (is_in xs) xs (λ p away. away)
+      up_to (suc n) few =
+          subst (λ (m : ℕ). IsCounted (is_in xs) xs m m) (add-one n)
+          (counted-more (is_in xs) xs n n true (λ p away. away) rising (omega arith) (up_to n (omega arith)) (is_in-at xs n (omega arith)))

@@ -106,3 +106,31 @@ pub fn eliminate_among<R: Rows, L: Ledger>(
     lower_among(rows, k, neighbours, steps);
     Ok(Found::Clear)
 }
+
+/// The same where all pairs of the list have room. It takes no memory, and no room changes.
+pub fn eliminate_with_room<R: Rows, L: Ledger>(
+    rows: &mut R,
+    k: u32,
+    neighbours: &[u32],
+    steps: &mut Steps<L>,
+) -> Found
+    requires within { k < R.places rows.old }
+    requires others { AreWithin (R.places rows.old) neighbours.now }
+    requires rising { AreRisingPlaces neighbours.now }
+    requires away { is_in neighbours.now k ≡ false }
+    requires light { AllLight 99 (R.at rows.old) }
+    requires room { (i j : ℕ) → is_in neighbours.now i ≡ true → is_in neighbours.now j ≡ true → i ≢ j → R.has_room rows.old i j ≡ true }
+    ensures step { StepAmong neighbours.now k (R.at rows.old) (R.at rows.new) result }
+    ensures room { (p q : ℕ) → R.has_room rows.new p q ≡ R.has_room rows.old p q }
+    ensures places { R.places rows.new ≡ R.places rows.old }
+    ensures roomy { R.is_roomy rows.new ≡ R.is_roomy rows.old }
+    ensures most { steps.new ≤ steps.old + (length neighbours.now * length neighbours.now + length neighbours.now) }
+    ensures some { 0 < length neighbours.now → steps.old < steps.new }
+    ensures rises { steps.old ≤ steps.new }
+{
+    if let Some(i) = first_negative_among(rows, k, neighbours, steps) {
+        return Found::Negative(i);
+    }
+    lower_among(rows, k, neighbours, steps);
+    Found::Clear
+}

@@ -37,6 +37,9 @@ fn read(rt: &impl Abort, alloc: Global, joins: &Joins) -> Result<(), Fail> {
         [0, 1, 4].as_slice(),
     )?;
     meets(rt, &mut list, joins, 4, all.as_slice(), [1, 3].as_slice())?;
+    assert!(rt; joins.size() == 5);
+    assert_eq!(rt; joins.count_joined(2), 0);
+    assert_eq!(rt; joins.count_joined(3), 3);
     let some = [true, false, true, false, true];
     meets(rt, &mut list, joins, 3, some.as_slice(), [0, 4].as_slice())
 }

@@ -214,6 +214,16 @@ impl Joins {
         count
     }
 
+    /// How many places are joined with k, those that do not remain among them. Takes no look at them.
+    pub fn count_joined(&self, k: u32) -> u32
+        requires { k < self.now.size }
+        ensures { result ≡ count_below (is_joined self.now k) self.now.size }
+    {
+        // With the size comes that there are few enough to count.
+        let _size = self.size();
+        self.joined(k).len() as u32
+    }
+
     /// Equal pairs of as many places. `OutOfMemory` where there is no room for them.
     pub fn copy(&self, alloc: Global) -> Result<Joins, OutOfMemory>
         ensures size { IfOk result (λ s. s.size ≡ self.now.size) }

@@ -18,7 +18,7 @@ pub mod step;
 pub mod steps;
 pub mod summary;
 
-pub use among::eliminate_among;
+pub use among::{eliminate_among, eliminate_with_room};
 pub use joins::Joins;
 pub use leaves::{Leaf, unfold};
 pub use pick::{Candidate, Picker};

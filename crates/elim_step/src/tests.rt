@@ -7,7 +7,7 @@ ghost use Rattle.elim_step.specs.Revisits.{names_once};
 
 use crate::{
     Candidate, Found, Joins, Picker, Ranking, Steps, Summary, SummaryEntry, eliminate_among,
-    eliminate_point, negative_with, revisit_point, revisit_rows,
+    eliminate_point, eliminate_with_room, negative_with, revisit_point, revisit_rows,
 };
 use dist_rows::{Cell, MatrixRows, Rows, Via};
 use std::alloc::Global;
@@ -170,6 +170,36 @@ fn eliminates_among<L: Ledger>(
     Ok(())
 }
 
+// The same once they have room.
+fn eliminates_with_room<L: Ledger>(
+    rt: &impl Abort,
+    alloc: Global,
+    blank: Blank,
+    cells: &[(u32, u32, i128)],
+    k: u32,
+    others: &[u32],
+    found: Found,
+    after: &[(u32, u32, Cell)],
+) -> Result<(), Fail>
+    requires name { blank.name ≡ L.name }
+    requires parts { (blank.parts ≡ L.parts) × (blank.parts ≡ 1) }
+    requires within { k < 4 }
+    requires others { AreWithin 4 others.now }
+    requires rising { AreRisingPlaces others.now }
+    requires away { is_in others.now k ≡ false }
+{
+    let mut rows = MatrixRows::new(alloc, 4)?;
+    fill(rt, &mut rows, cells)?;
+    rows.make_room_among(others)?;
+    let mut steps = Steps::<L>::new(blank);
+    assert_eq!(rt;
+        eliminate_with_room(&mut rows, k, others, &mut steps),
+        found
+    );
+    holds(rt, &rows, after);
+    Ok(())
+}
+
 // What it would answer, without a write.
 fn fails(
     rt: &impl Abort,
@@ -196,7 +226,7 @@ const PLAN: [(u32, u32, i128); 6] = [
     (2, 0, 0),
 ];
 
-// All three of these, with counters of their own.
+// All four of these, with counters of their own.
 fn case(
     rt: &impl Abort,
     alloc: Global,
@@ -211,16 +241,9 @@ fn case(
     assert!(rt; remain.len() == 4 && k < 4);
     let mut others = Vec::new(alloc);
     list_others(alloc, k, remain, &mut others)?;
-    eliminates_among::<Brand>(
-        rt,
-        alloc,
-        Blank::new(1),
-        cells,
-        k,
-        others.as_slice(),
-        found,
-        after,
-    )
+    let others = others.as_slice();
+    eliminates_among::<Brand>(rt, alloc, Blank::new(1), cells, k, others, found, after)?;
+    eliminates_with_room::<Brand>(rt, alloc, Blank::new(1), cells, k, others, found, after)
 }
 
 #[test]
