@@ -5,8 +5,9 @@ pub mod Counts
 pub mod Takes
 pub mod Laying
 pub mod DegreeFacts
-pub mod CandidateFacts
 pub mod Choices
 pub mod Answered
 pub mod Orders
+pub mod Met
+pub mod Keys
 pub mod Underways

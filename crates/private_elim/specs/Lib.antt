@@ -15,7 +15,8 @@ pub mod Laws
 pub mod SummaryRows
 pub mod Laid
 pub mod Numbers
-pub mod Candidates
+pub mod Keyed
+pub mod Met
 pub mod Outcomes
 pub mod Sweeps
 pub mod Leaves

@@ -7,10 +7,9 @@ ghost use Rattle.stn_model.specs.Summaries.{IsSummary};
 ghost use Rattle.stn_walk.specs.Eliminations.{is_in};
 ghost use Rattle.private_elim.specs.Locals.{all_numbered, is_private_in};
 ghost use Rattle.elim_step.specs.Eliminated.{point_at};
-ghost use Rattle.elim_step.specs.Picks.{candidate_at};
 ghost use Rattle.private_elim.specs.Taken.{StopsAt, Fails};
 ghost use Rattle.private_elim.specs.Outcomes.{IsNext, IsReducedFrom, IsConflictFrom, IsPickedOutcome, IsListedOutcome};
-ghost use Rattle.private_elim.specs.Picked.{AreCandidates, ArePicked, IsStopped};
+ghost use Rattle.private_elim.specs.Picked.{ArePicked, IsStopped};
 ghost use Rattle.elim_step.specs.Summaries.{entry_of};
 ghost use Rattle.private_elim.specs.Reductions.{OfNetwork, HasOwnConflict, is_conflict, IfReduced, IfConflict};
 
@@ -19,7 +18,7 @@ use crate::elimination::SparseElimination;
 use crate::local::Local;
 use crate::outcome::PrivateOutcome;
 use crate::summarise::summarise;
-use elim_step::{Candidate, Picker, Steps};
+use elim_step::{Picker, Steps};
 use sparse_rows::SparseRows;
 use std::alloc::Global;
 use std::marker::Brand;
@@ -96,17 +95,18 @@ fn take_picked<L: Ledger>(
 {
     let mut steps = Steps::<L>::new(blank);
     let mut elimination = elimination;
-    let mut candidates = Vec::new(alloc);
     let mut met = Vec::new(alloc);
+    let mut partial = Vec::new(alloc);
+    let mut ranking = elimination.rank_all(alloc, picker)?;
     'taking: loop {
-        elimination.candidates(&mut candidates)?;
-        let Some(k) = picker.pick(candidates.as_slice()) else {
+        let Some(place) = ranking.first() else {
             return reduced(alloc, elimination);
         };
-        let place = picked_place(&elimination, candidates.as_slice(), k);
-        if let Some(other) = elimination.take(place, &mut met, &mut steps)? {
+        if let Some(other) = elimination.take(place, &mut met, &mut partial, &mut steps)? {
             return conflict(alloc, &elimination, place, other);
         }
+        ranking.set(place, None);
+        elimination.rank(picker, met.as_slice(), &mut ranking);
         // With the size comes that no more points are taken than there are, so that the loop ends.
         let _taken = elimination.size();
     }
@@ -131,27 +131,14 @@ fn take_listed<L: Ledger>(
     let mut steps = Steps::<L>::new(blank);
     let mut elimination = elimination;
     let mut met = Vec::new(alloc);
+    let mut partial = Vec::new(alloc);
     for n in 0..order.len() {
         let place = listed_place(&elimination, order, n);
-        if let Some(other) = elimination.take(place, &mut met, &mut steps)? {
+        if let Some(other) = elimination.take(place, &mut met, &mut partial, &mut steps)? {
             return conflict(alloc, &elimination, place, other);
         }
     }
     reduced(alloc, elimination)
-}
-
-// The place of a candidate.
-fn picked_place(elimination: &SparseElimination, candidates: &[Candidate], k: usize) -> u32
-    requires are { AreCandidates elimination.now.local (reverse elimination.now.order) candidates.now }
-    requires within { k < length candidates.now }
-    ensures { IsNext elimination.now (candidate_at candidates.now k).number result }
-{
-    // With the size comes that it is a local problem, in which each candidate has a place.
-    let _size = elimination.size();
-    let Some(place) = elimination.local().place_of(PointId(candidates[k].number)) else {
-        unreachable!()
-    };
-    place
 }
 
 // The place of the next point of an order.

@@ -1,18 +1,17 @@
 //! A local problem of which some private points are taken: the weights between its points through those.
-ghost use Rattle.std.specs.Prelude.{◌≡◌, ◌≢◌, ℕ, ◌<◌, ◌+ℤ◌, ◌<ℤ◌, ◌++◌, ◌∷◌, [], ◌⊎◌, true, false, pos, neg_ℤ, ◌≤ℤ◌, map, Option, Some, None, is_some, IfOk, IfSome, OnErr, MatchOption, length, reverse, slice_index_or, if◌then◌else◌};
-ghost use Rattle.std.specs.List.{AllByRecursion};
+ghost use Rattle.std.specs.Prelude.{◌≡◌, ◌≢◌, ℕ, ◌+◌, ◌*◌, ◌<◌, ◌≤◌, ◌++◌, ◌∷◌, [], true, false, pos, neg_ℤ, ◌≤ℤ◌, map, None, IfOk, IfSome, OnErr, MatchOption, length, reverse};
 ghost use Rattle.stn_model.specs.Limits.{greatest_walk};
-ghost use Rattle.stn_model.specs.Walks as walks;
 ghost use Rattle.stn_walk.specs.Eliminations.{is_in, before_both};
 ghost use Rattle.stn_walk.specs.Joins.{joined_of};
 ghost use Rattle.elim_step.specs.Eliminated.{forward_of, point_at, weight_at};
-ghost use Rattle.private_elim.specs.Degrees.{degree_of};
-ghost use Rattle.private_elim.specs.Locals.{arcs_in, is_private_in, all_numbered, is_point_of};
+ghost use Rattle.private_elim.specs.Locals.{arcs_in, is_private_in};
+ghost use Rattle.private_elim.specs.Met.{AreMet};
 ghost use Rattle.private_elim.specs.Taken.{TakenView, StopsAt, HasTaken};
 
 use crate::local::Local;
+use crate::met::{count_gone, list_partial};
 use dist_rows::{Cell, Rows};
-use elim_step::{Found, Joins, Steps, eliminate_point};
+use elim_step::{Found, Joins, Steps, eliminate_with_room};
 use sparse_rows::SparseRows;
 use std::alloc::Global;
 use std::marker::Model;
@@ -26,8 +25,8 @@ pub struct Elimination<R: Rows> {
     pub(crate) rows: R,
     pub(crate) joins: Joins,
     pub(crate) remain: Vec<bool>,
-    /// By place: with how many places that remain this one is joined, where it remains.
-    pub(crate) degrees: Vec<u32>,
+    /// By place: with how many places that do not remain this one is joined, where it remains.
+    pub(crate) gone: Vec<u32>,
     pub(crate) order: Vec<PointId>,
 }
 
@@ -44,17 +43,19 @@ impl<R: Rows> Model for Elimination<R> {
 
     ghost view = { λ e. taken_view e.local e.order.items };
 
-    ghost invariant = { λ e. IsUnderway (record { local = e.local; order = map (λ p. p.0) e.order.items; places = R.places e.rows; at = R.at e.rows; joins = e.joins; remain = e.remain.items; degrees = e.degrees.items }) };
+    ghost invariant = { λ e. IsUnderway (record { local = e.local; order = map (λ p. p.0) e.order.items; places = R.places e.rows; at = R.at e.rows; joins = e.joins; remain = e.remain.items; gone = e.gone.items; room = R.has_room e.rows }) };
 }
 
 impl<R: Rows> Elimination<R> {
     /// Takes the private point at this place. Gives the least place of another point that is left and with which it fails: the
     /// weights from the one to the other and back sum below 0. Then nothing changes; else the point is taken. Writes the places that
-    /// are left and joined with it into `met`.
+    /// are left and joined with it into `met`, and those of them that are not joined with all others that are left into `partial`.
+    /// With d places in `met` the counter rises by at most `d * d + d`, and by at least one where d is above 0.
     pub fn take<L: Ledger>(
         &mut self,
         place: u32,
         met: &mut Vec<u32>,
+        partial: &mut Vec<u32>,
         steps: &mut Steps<L>,
     ) -> Result<Option<u32>, OutOfMemory>
         requires within { place < length self.old.local.points }
@@ -64,23 +65,31 @@ impl<R: Rows> Elimination<R> {
         ensures taken { IfOk result (λ r. MatchOption r (self.new.order ≡ self.old.order ++ point_at self.old.local.points place ∷ [])
             (λ other. (other < length self.old.local.points) × (self.new.order ≡ self.old.order)
             × StopsAt self.old.local (reverse self.old.order) (point_at self.old.local.points place) (point_at self.old.local.points other))) }
+        ensures met { IfOk result (λ _. AreMet self.old.local (reverse self.old.order) place met.new.items) }
         ensures err { OnErr result (self.new ≡ self.old) }
+        ensures most { steps.new ≤ steps.old + (length met.new.items * length met.new.items + length met.new.items) }
+        ensures some { IfOk result (λ _. 0 < length met.new.items → steps.old < steps.new) }
     {
         let point = self.local.point(place);
         self.joins.neighbours(place, self.remain.as_slice(), met)?;
-        self.joins.reserve_all(met.as_slice())?;
+        // Others than itself that are left, for each place that is left.
+        let others = self.local.size() - self.order.len() as u32 - 1;
+        list_partial(
+            &self.joins,
+            self.gone.as_slice(),
+            others,
+            met.as_slice(),
+            partial,
+        )?;
+        self.rows.make_room_among(partial.as_slice())?;
+        self.joins.reserve_all(partial.as_slice())?;
         self.order.reserve(1)?;
-        match eliminate_point(&mut self.rows, place, self.remain.as_slice(), steps)? {
+        match eliminate_with_room(&mut self.rows, place, met.as_slice(), steps) {
             Found::Negative(other) => Ok(Some(other)),
             Found::Clear => {
-                self.joins.join_all_reserved(met.as_slice());
+                self.joins.join_all_reserved(partial.as_slice());
                 self.remain[place as usize] = false;
-                recount(
-                    &mut self.degrees,
-                    &self.joins,
-                    self.remain.as_slice(),
-                    met.as_slice(),
-                );
+                count_gone(self.gone.as_mut_slice(), met.as_slice());
                 self.order.push_reserved(point);
                 Ok(None)
             }
@@ -137,14 +146,14 @@ impl<R: Rows> Elimination<R> {
         let rows = self.rows.copy(alloc)?;
         let joins = self.joins.copy(alloc)?;
         let remain = Vec::from_slice(alloc, self.remain.as_slice())?;
-        let degrees = Vec::from_slice(alloc, self.degrees.as_slice())?;
+        let gone = Vec::from_slice(alloc, self.gone.as_slice())?;
         let order = Vec::from_slice(alloc, self.order.as_slice())?;
         Ok(Elimination {
             local,
             rows,
             joins,
             remain,
-            degrees,
+            gone,
             order,
         })
     }
@@ -157,18 +166,5 @@ fn weight_of(cell: Option<Cell>) -> Option<i128>
     match cell {
         None => None,
         Some(cell) => Some(cell.weight),
-    }
-}
-
-// Counts anew, for each of these places, with how many places that remain it is joined.
-fn recount(degrees: &mut Vec<u32>, joins: &Joins, remain: &[bool], places: &[u32])
-    requires len { length degrees.old.items ≡ joins.now.size }
-    requires remain_len { length remain.now ≡ joins.now.size }
-    requires within { (p : ℕ) → is_in places.now p ≡ true → p < joins.now.size }
-    ensures len { length degrees.new.items ≡ length degrees.old.items }
-    ensures each { (p : ℕ) → slice_index_or degrees.new.items p 0 ≡ (if is_in places.now p then degree_of remain.now joins.now p else slice_index_or degrees.old.items p 0) }
-{
-    for &p in places {
-        degrees[p as usize] = joins.count(p, remain);
     }
 }

@@ -2,7 +2,6 @@
 ghost use Rattle.std.specs.Prelude.{◌≡◌, ◌≢◌, ℕ, ◌+◌, ◌<◌, ◌||◌, ◌&&◌, ◌==◌, not, true, false, [], None, IfOk, OnOk, length, replicate, slice_index_or, take};
 ghost use Rattle.elim_step.specs.JoinedPlaces.{is_joined};
 ghost use Rattle.private_elim.specs.Locals.{all_numbered, local_arc_at};
-ghost use Rattle.private_elim.specs.Degrees.{degree_of};
 ghost use Rattle.private_elim.specs.Laid.{IsLaid, IsLaidArc};
 
 use crate::elimination::Elimination;
@@ -27,20 +26,20 @@ impl<R: Rows> Elimination<R> {
         let mut joins = Joins::new(alloc, size)?;
         lay_arcs(&local, &mut rows, &mut joins)?;
         let remain = vec![in alloc; true; size as usize]?;
-        let degrees = count_all(alloc, &joins, remain.as_slice())?;
+        let gone = vec![in alloc; 0; size as usize]?;
         let order = Vec::with_capacity(alloc, size as usize)?;
         Ok(Elimination {
             local,
             rows,
             joins,
             remain,
-            degrees,
+            gone,
             order,
         })
     }
 }
 
-// Writes the arcs of a local problem into cells without weights, and joins their ends.
+// Writes the arcs of a local problem into cells without weights, and joins their ends, which get room both ways.
 fn lay_arcs<R: Rows>(local: &Local, rows: &mut R, joins: &mut Joins) -> Result<(), OutOfMemory>
     requires size { R.places rows.old ≡ length local.now.points }
     requires joins_size { joins.old.size ≡ length local.now.points }
@@ -48,6 +47,7 @@ fn lay_arcs<R: Rows>(local: &Local, rows: &mut R, joins: &mut Joins) -> Result<(
     requires apart { (p q : ℕ) → is_joined joins.old p q ≡ false }
     ensures size { R.places rows.new ≡ R.places rows.old }
     ensures joins_size { joins.new.size ≡ joins.old.size }
+    ensures room { OnOk result ((p q : ℕ) → is_joined joins.new p q ≡ true → R.has_room rows.new p q ≡ true) }
     ensures laid { OnOk result (IsLaid local.now (length local.now.arcs) (R.at rows.new) (is_joined joins.new)) }
 {
     // With the size comes that it is a local problem, whose arcs join its points.
@@ -58,7 +58,7 @@ fn lay_arcs<R: Rows>(local: &Local, rows: &mut R, joins: &mut Joins) -> Result<(
     Ok(())
 }
 
-// Writes one arc into its cell, and joins its ends.
+// Writes one arc into its cell, and joins its ends, which get room both ways.
 fn lay_arc<R: Rows>(
     local: &Local,
     rows: &mut R,
@@ -68,8 +68,10 @@ fn lay_arc<R: Rows>(
     requires within { k < length local.now.arcs }
     requires size { R.places rows.old ≡ length local.now.points }
     requires joins_size { joins.old.size ≡ length local.now.points }
+    requires room { (p q : ℕ) → is_joined joins.old p q ≡ true → R.has_room rows.old p q ≡ true }
     ensures size { R.places rows.new ≡ R.places rows.old }
     ensures joins_size { joins.new.size ≡ joins.old.size }
+    ensures room { OnOk result ((p q : ℕ) → is_joined joins.new p q ≡ true → R.has_room rows.new p q ≡ true) }
     ensures arc { OnOk result (IsLaidArc local.now k (R.at rows.old) (R.at rows.new) (is_joined joins.old) (is_joined joins.new)) }
 {
     // With the size comes that it is a local problem, in which both ends have a place.
@@ -82,6 +84,7 @@ fn lay_arc<R: Rows>(
         unreachable!()
     };
     rows.make_room(from, to)?;
+    rows.make_room(to, from)?;
     rows.lower(
         from,
         to,
@@ -92,17 +95,4 @@ fn lay_arc<R: Rows>(
     );
     joins.join(from, to)?;
     Ok(())
-}
-
-// With how many places that remain each place is joined.
-fn count_all(alloc: Global, joins: &Joins, remain: &[bool]) -> Result<Vec<u32>, OutOfMemory>
-    requires { length remain.now ≡ joins.now.size }
-    ensures len { IfOk result (λ v. length v.items ≡ joins.now.size) }
-    ensures each { IfOk result (λ v. (p : ℕ) → p < joins.now.size → slice_index_or v.items p 0 ≡ degree_of remain.now joins.now p) }
-{
-    let mut degrees = Vec::with_capacity(alloc, joins.size() as usize)?;
-    for p in 0..joins.size() {
-        degrees.push(joins.count(p, remain))?;
-    }
-    Ok(degrees)
 }

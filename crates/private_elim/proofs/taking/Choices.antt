@@ -12,12 +12,9 @@ use Rattle.stn_model.specs.Walks.{AllDifferent}
 use Rattle.stn_walk.specs.Eliminations.{is_in}
 use Rattle.stn_walk.proofs.Different.{few_different, different_at}
 use Rattle.stn_walk.proofs.Joins.{is_in-reverse}
-use Rattle.elim_step.specs.declared.pick.Candidate.{Candidate}
-use Rattle.elim_step.specs.Picks.{candidate_at}
 use Rattle.private_elim.specs.Locals.{LocalView, IsLocal, is_private_in, place_in, private_at, passes_at}
 use Rattle.private_elim.specs.Taken.{TakenView, HasTaken, StopsAt}
-use Rattle.private_elim.specs.Picked.{AreCandidates, IsPicked, ArePicked}
-use Rattle.private_elim.specs.Candidates.{is_left}
+use Rattle.private_elim.specs.Picked.{IsPicked, ArePicked}
 use Rattle.private_elim.specs.declared.outcome.PrivateOutcome.{PrivateOutcome}
 use Rattle.private_elim.specs.declared.outcome.PrivateOutcome.TheVariants.{Reduced, Conflict}
 use Rattle.private_elim.specs.Outcomes.{IsNext, IsReducedFrom, IsConflictFrom, IsListedOutcome, IsPickedOutcome, IsReducedWith}
@@ -46,69 +43,6 @@ few_taken t h = few_different most_points t.order h.once (all t.order h.private)
   all : (xs : List ℕ) → AllByRecursion (λ p. is_private_in t.local p ≡ true) xs → AllByRecursion (λ p. p < most_points) xs
   all [] a = tt
   all (x ∷ xs) a = (private_below t.local h.known x a.0, all xs a.1)
-
--- what a filter lets through passes
-filter_passes : (test : ℕ → Bool) (xs : List ℕ) (k : ℕ) → k < length (filter test xs) → test (get_or (filter test xs) k 0) ≡ true
-filter_passes test [] k lt = absurd (omega arith)
-filter_passes test (x ∷ xs) k lt = by (filter_passes test xs) (test x) refl k lt where
-  by : ((k : ℕ) → k < length (filter test xs) → test (get_or (filter test xs) k 0) ≡ true) → (b : Bool) → test x ≡ b → (k : ℕ)
-      → k < length (if b then x ∷ filter test xs else filter test xs) → test (get_or (if b then x ∷ filter test xs else filter test xs) k 0) ≡ true
-  by rest true e zero lt = e
-  by rest true e (suc k) lt = rest k (omega arith)
-  by rest false e k lt = rest k lt
-
--- where a filter lets nothing through, nothing passes
-filter_none : (test : ℕ → Bool) (xs : List ℕ) → length (filter test xs) ≡ 0 → (k : ℕ) → k < length xs → test (get_or xs k 0) ≡ false
-filter_none test [] none k lt = absurd (omega arith)
-filter_none test (x ∷ xs) none k lt = by (filter_none test xs) (test x) refl none k lt where
-  by : (length (filter test xs) ≡ 0 → (k : ℕ) → k < length xs → test (get_or xs k 0) ≡ false) → (b : Bool) → test x ≡ b
-      → length (if b then x ∷ filter test xs else filter test xs) ≡ 0 → (k : ℕ) → k < length (x ∷ xs) → test (get_or (x ∷ xs) k 0) ≡ false
-  by rest true e none k lt = absurd (omega arith)
-  by rest false e none zero lt = e
-  by rest false e none (suc k) lt = rest none k (omega arith)
-
--- a candidate is a private point that is not taken
-pub candidate_left : (v : LocalView) (taken : List ℕ) (cs : List Candidate) (k : ℕ) → AreCandidates v taken cs → k < length cs
-    → is_left v taken (candidate_at cs k).number ≡ true
-candidate_left v taken cs k are lt =
-    let many : length (map (λ (c : Candidate). c.number) cs) ≡ length cs = length-map cs (λ c. c.number) in
-    let same = ap (λ (xs : List ℕ). length xs) are.numbers in
-    let here : get_or (map (λ (c : Candidate). c.number) cs) k 0 ≡ (candidate_at cs k).number =
-    get_or-map (λ (c : Candidate). c.number) cs k (record { degree = 0; number = 0 }) 0 lt in
-    ap (is_left v taken) (sym here ∙ ap (λ xs. get_or xs k 0) are.numbers) ∙ filter_passes (is_left v taken) v.points k (omega arith)
-
-pub candidate_placed : (v : LocalView) (taken : List ℕ) (cs : List Candidate) (k : ℕ) → AreCandidates v taken cs → k < length cs
-    → place_in v.points (candidate_at cs k).number ≡ None → ⊥
-candidate_placed v taken cs k are lt none =
-    let b = and_parts (is_private_in v (candidate_at cs k).number) (not (is_in taken (candidate_at cs k).number)) (candidate_left v taken cs k are lt) in
-    let p = private_placed v (candidate_at cs k).number b.0 in
-    let e = p.1 in
-    absurd (cc)
-
-pub candidate_next : (t : TakenView) (cs : List Candidate) (k place : ℕ) → AreCandidates t.local (reverse t.order) cs → k < length cs
-    → place_in t.local.points (candidate_at cs k).number ≡ Some place
-    → IsNext t (candidate_at cs k).number place
-candidate_next t cs k place are lt e =
-    let v = t.local in
-    let p = (candidate_at cs k).number in
-    let b = and_parts (is_private_in v p) (not (is_in (reverse t.order) p)) (candidate_left v (reverse t.order) cs k are lt) in
-    let found = place_found v.points p place e in
-    record { within = found.0; is = found.1; private = b.0; left = not-true (is_in (reverse t.order) p) b.1 }
-
--- where there is no candidate all private points are taken
-pub none_left : (v : LocalView) (taken : List ℕ) (cs : List Candidate) → AreCandidates v taken cs → length cs ≡ 0 → (p : ℕ) → is_private_in v p ≡ true
-    → is_in taken p ≡ true
-none_left v taken cs are none p private =
-    let many : length (map (λ (c : Candidate). c.number) cs) ≡ length cs = length-map cs (λ c. c.number) in
-    let same = ap (λ (xs : List ℕ). length xs) are.numbers in
-    let placed = private_placed v p private in
-    let found = place_found v.points p placed.0 placed.1 in
-    let fails : is_left v taken (get_or v.points placed.0 0) ≡ false = filter_none (is_left v taken) v.points (omega arith) placed.0 found.0 in
-    let here : is_left v taken p ≡ false = ap (is_left v taken) (sym found.1) ∙ fails in
-    by (is_in taken p) (rw private at here) where
-      by : (b : Bool) → (true && not b) ≡ false → b ≡ true
-      by true h = refl
-      by false h = absurd (cc)
 
 -- the next point of an order in which no point stands twice
 not_before : (xs : List ℕ) (n : ℕ) → n < length xs → AllDifferent xs → is_in (take n xs) (get_or xs n 0) ≡ false

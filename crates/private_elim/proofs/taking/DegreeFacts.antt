@@ -1,16 +1,17 @@
--- How many places remain and are joined with a place: the degree of its point.
+-- How many places remain and are joined with a place: the degree of its point, neighbour by neighbour; and where it stays.
 use Rattle.std.proofs.Common.{zero, suc, ◌≡◌, ◌≢◌, ℕ, ◌+◌, ◌<◌, ◌≤◌, List, [], ◌∷◌, ◌++◌, Bool, true, false, ◌&&◌, ◌||◌, not, Option, Some, None, ap}
 use Rattle.std.proofs.Common.{sym, ◌∙◌, refl, arith, subst, length, length-append, append-nil, get_or, inl, inr, ◌⊎◌}
-use Rattle.stn_walk.proofs.Members.{is_in-at, is_in-push}
+use Rattle.stn_walk.proofs.Members.{is_in-at, is_in-push, is_in-rest}
 use Rattle.std.proofs.Math.Bool.{or-true}
-use Rattle.std.proofs.lemmas.Bool.{and_parts, not-true, or_cases}
+use Rattle.std.proofs.lemmas.Bool.{and_parts, not-true, or_cases, false≢true}
 use Rattle.std.specs.Prelude.{◌==◌, if◌then◌else◌, is_some, reverse}
 use Rattle.std.proofs.lemmas.Bool.Decides.{nat_tests}
+use Rattle.std.specs.List.{AllByRecursion}
 use Rattle.stn_model.specs.Walks.{AllDifferent}
 use Rattle.stn_walk.specs.Eliminations.{is_in}
 use Rattle.stn_walk.specs.Joins.{joined_of, HasPath}
 use Rattle.stn_walk.proofs.Different.{AllDifferent-push}
-use Rattle.stn_walk.proofs.Joins.{path-from_joined, joined-from_path}
+use Rattle.stn_walk.proofs.Joins.{path-from_joined, joined-from_path, joined-symmetric}
 use Rattle.stn_walk.proofs.Eliminations.{before-whole}
 use Rattle.dist_rows.specs.declared.cell.Cell.{Cell}
 use Rattle.elim_step.specs.Eliminates.{remains, count_below}
@@ -94,27 +95,16 @@ module _ (points : List ℕ) (apart : (i j : ℕ) → i < length points → j < 
     by true e = omega arith
     by false e = omega arith
 
--- the number of places that remain and are joined with a place that is not taken is the degree of its point
-pub degree_is : (v : LocalView) (order : List ℕ) (at : ℕ → ℕ → Option Cell) (joined : ℕ → ℕ → Bool) (remain : List Bool) → IsTaken v order at joined remain
-    → (k : ℕ) → k < length v.points → is_in (reverse order) (point_at v.points k) ≡ false
-    → IsDegree v (reverse order) (point_at v.points k) (count_below (λ q. remains remain q && joined k q) (length v.points))
-degree_is v order at joined remain h k lk fresh = record {
-  neighbours = points_where v.points test (length v.points);
-  once = where_once v.points apart test (length v.points) (omega arith);
-  each = λ q. (λ here. to_neighbour q (where_from v.points apart test (length v.points) q here), λ m. from_neighbour q m);
-  many = where_many v.points apart test (length v.points);
-} where
-  test : ℕ → Bool
-  test q = remains remain q && joined k q
-
+module _ (v : LocalView) (order : List ℕ) (at : ℕ → ℕ → Option Cell) (joined : ℕ → ℕ → Bool) (remain : List Bool) (h : IsTaken v order at joined remain)
+    (k : ℕ) (lk : k < length v.points) (fresh : is_in (reverse order) (point_at v.points k) ≡ false) where
   apart : (i j : ℕ) → i < length v.points → j < length v.points → point_at v.points i ≡ point_at v.points j → i ≡ j
   apart = (local_ground v h.known).apart
 
-  to_neighbour : (q : ℕ) → IsWhere v.points apart test (length v.points) q → IsNeighbour v (reverse order) (point_at v.points k) q
-  to_neighbour q w =
-      let m = w.place in
-      let lm = w.low in
-      let b = and_parts (remains remain m) (joined k m) w.passes in
+  -- a place that remains and is joined with one that is not taken is that of a neighbour
+  pub neighbour_from : (m : ℕ) → m < length v.points → (remains remain m && joined k m) ≡ true
+      → IsNeighbour v (reverse order) (point_at v.points k) (point_at v.points m)
+  neighbour_from m lm passes =
+      let b = and_parts (remains remain m) (joined k m) passes in
       let left : is_in (reverse order) (point_at v.points m) ≡ false =
       not-true (is_in (reverse order) (point_at v.points m)) (sym (h.cells.remaining m lm) ∙ b.0) in
       let mk : k ≢ m = λ e. (let n = h.alone k in let y : joined k k ≡ true = ap (joined k) e ∙ b.1 in cc) in
@@ -122,32 +112,98 @@ degree_is v order at joined remain h k lk fresh = record {
       path-from_joined (arcs_in v) (reverse order) (point_at v.points k) (point_at v.points m)
       (ap (λ es. joined_of (arcs_in v) es (point_at v.points k) (point_at v.points m))
       (sym (before-whole (reverse order) (point_at v.points k) (point_at v.points m) fresh left)) ∙ sym (h.joins k m lk lm mk) ∙ b.1) in
-      subst (IsNeighbour v (reverse order) (point_at v.points k)) w.is
-      (record {
+      record {
         point = ap is_some (place_of_point_at v h.known m lm);
         left = left;
         other = λ e. mk (apart k m lk lm (sym e));
         inner = path.0;
         path = path.1;
         through = path.2;
-      })
+      }
 
-  from_neighbour : (q : ℕ) → IsNeighbour v (reverse order) (point_at v.points k) q → is_in (points_where v.points test (length v.points)) q ≡ true
-  from_neighbour q neighbours = by (place_in v.points q) refl where
-    by : (o : Option ℕ) → place_in v.points q ≡ o → is_in (points_where v.points test (length v.points)) q ≡ true
-    by None e = absurd (let p = neighbours.point in let n : is_point_of v q ≡ false = ap is_some e in cc)
-    by (Some m) e =
-        let found = place_found v.points q m e in
-        let lm = found.0 in
-        let is = found.1 in
-        let left : is_in (reverse order) (point_at v.points m) ≡ false = rw is neighbours.left in
-        let mk : k ≢ m = λ same. neighbours.other (sym is ∙ ap (point_at v.points) (sym same)) in
-        let stays : remains remain m ≡ true = h.cells.remaining m lm ∙ ap not left in
-        let join : joined_of (arcs_in v) (reverse order) (point_at v.points k) q ≡ true =
-        joined-from_path (arcs_in v) (reverse order) (point_at v.points k) q (neighbours.inner, neighbours.path, neighbours.through) in
-        let here : joined k m ≡ true =
-        h.joins k m lk lm mk ∙ ap (λ es. joined_of (arcs_in v) es (point_at v.points k) (point_at v.points m))
-        (before-whole (reverse order) (point_at v.points k) (point_at v.points m) fresh left)
-        ∙ ap (joined_of (arcs_in v) (reverse order) (point_at v.points k)) is ∙ join in
-        subst (λ x. is_in (points_where v.points test (length v.points)) x ≡ true) is
-        (where_to v.points apart test (length v.points) m lm (λ t. stays t && here t))
+  -- and that of a neighbour is such a place
+  pub neighbour_to : (m : ℕ) → m < length v.points → IsNeighbour v (reverse order) (point_at v.points k) (point_at v.points m)
+      → (remains remain m && joined k m) ≡ true
+  neighbour_to m lm neighbour =
+      let p = point_at v.points k in
+      let q = point_at v.points m in
+      let mk : k ≢ m = λ same. neighbour.other (ap (point_at v.points) (sym same)) in
+      let stays : remains remain m ≡ true = h.cells.remaining m lm ∙ ap not neighbour.left in
+      let join : joined_of (arcs_in v) (reverse order) p q ≡ true =
+      joined-from_path (arcs_in v) (reverse order) p q (neighbour.inner, neighbour.path, neighbour.through) in
+      let here : joined k m ≡ true =
+      h.joins k m lk lm mk ∙ ap (λ es. joined_of (arcs_in v) es p q) (before-whole (reverse order) p q fresh neighbour.left) ∙ join in
+      (λ t. stays t && here t)
+
+  abbrev test : ℕ → Bool
+  test q = remains remain q && joined k q
+
+  -- the number of places that remain and are joined with a place that is not taken is the degree of its point
+  pub degree_is : IsDegree v (reverse order) (point_at v.points k) (count_below (λ q. remains remain q && joined k q) (length v.points))
+  degree_is = record {
+    neighbours = points_where v.points test (length v.points);
+    once = where_once v.points apart test (length v.points) (omega arith);
+    each = λ q. (λ here. to_neighbour q (where_from v.points apart test (length v.points) q here), λ m. from_neighbour q m);
+    many = where_many v.points apart test (length v.points);
+  } where
+    to_neighbour : (q : ℕ) → IsWhere v.points apart test (length v.points) q → IsNeighbour v (reverse order) (point_at v.points k) q
+    to_neighbour q w = subst (IsNeighbour v (reverse order) (point_at v.points k)) w.is (neighbour_from w.place w.low w.passes)
+
+    from_neighbour : (q : ℕ) → IsNeighbour v (reverse order) (point_at v.points k) q → is_in (points_where v.points test (length v.points)) q ≡ true
+    from_neighbour q neighbours = by (place_in v.points q) refl where
+      by : (o : Option ℕ) → place_in v.points q ≡ o → is_in (points_where v.points test (length v.points)) q ≡ true
+      by None e = absurd (let p = neighbours.point in let n : is_point_of v q ≡ false = ap is_some e in cc)
+      by (Some m) e =
+          let found = place_found v.points q m e in
+          subst (λ x. is_in (points_where v.points test (length v.points)) x ≡ true) found.1
+          (where_to v.points apart test (length v.points) m found.0
+          (neighbour_to m found.0 (subst (IsNeighbour v (reverse order) (point_at v.points k)) (sym found.1) neighbours)))
+
+-- the degree of a point stays where a point is taken that is no neighbour of it
+module _ (v : LocalView) (taken : List ℕ) (x y : ℕ) (known : is_point_of v y ≡ true) (left : is_in taken y ≡ false) (other : y ≢ x)
+    (away : IsNeighbour v taken x y → ⊥) where
+  no_path : HasPath (is_in taken) (arcs_in v) x y → ⊥
+  no_path p = away (record { point = known; left = left; other = other; inner = p.0; path = p.1; through = p.2 })
+
+  not_joined : (b : Bool) → joined_of (arcs_in v) taken x y ≡ b → b ≡ false
+  not_joined true e = absurd (no_path (path-from_joined (arcs_in v) taken x y e))
+  not_joined false e = refl
+
+  apart_before : joined_of (arcs_in v) taken y x ≡ false
+  apart_before = joined-symmetric (arcs_in v) taken y x ∙ not_joined (joined_of (arcs_in v) taken x y) refl
+
+  still : (q : ℕ) → IsNeighbour v taken y q → IsNeighbour v (x ∷ taken) y q
+  still q n = record {
+    point = n.point;
+    left = is_in-rest x taken q (λ e. false≢true (sym apart_before ∙ joined-from_path (arcs_in v) taken y x
+        (subst (HasPath (is_in taken) (arcs_in v) y) e (n.inner, n.path, n.through)))) ∙ n.left;
+    other = n.other;
+    inner = n.inner;
+    path = n.path;
+    through = wider n.inner n.through;
+  } where
+    wider : (ps : List ℕ) → AllByRecursion (λ p. is_in taken p ≡ true) ps → AllByRecursion (λ p. is_in (x ∷ taken) p ≡ true) ps
+    wider [] all = tt
+    wider (p ∷ ps) all = (ap (λ b. b || (p == x)) all.0, wider ps all.1)
+
+  before : (q : ℕ) → IsNeighbour v (x ∷ taken) y q → IsNeighbour v taken y q
+  before q n =
+      let join : joined_of (arcs_in v) (x ∷ taken) y q ≡ true = joined-from_path (arcs_in v) (x ∷ taken) y q (n.inner, n.path, n.through) in
+      let path = path-from_joined (arcs_in v) taken y q (direct (joined_of (arcs_in v) taken y q) (joined_of (arcs_in v) taken x q)
+      (ap (λ b. joined_of (arcs_in v) taken y q || (b && joined_of (arcs_in v) taken x q)) (sym apart_before) ∙ join)) in
+      record { point = n.point; left = first (is_in taken q) n.left; other = n.other; inner = path.0; path = path.1; through = path.2 } where
+        direct : (a b : Bool) → (a || (false && b)) ≡ true → a ≡ true
+        direct true b e = refl
+        direct false b e = absurd (false≢true e)
+
+        first : (a : Bool) → (a || (q == x)) ≡ false → a ≡ false
+        first true e = e
+        first false e = refl
+
+  pub degree_stays : (d : ℕ) → IsDegree v taken y d → IsDegree v (x ∷ taken) y d
+  degree_stays d is = record {
+    neighbours = is.neighbours;
+    once = is.once;
+    each = λ q. (λ here. still q ((is.each q).0 here), λ n. (is.each q).1 (before q n));
+    many = is.many;
+  }

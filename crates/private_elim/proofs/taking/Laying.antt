@@ -307,3 +307,11 @@ lowered_weight s e n w x at same p q = ap (λ (w : ℤ). cells.lowered s e (reco
 pub lowered_same : (s e : ℕ) (c : Cell) (at at' : ℕ → ℕ → Option Cell) → ((p q : ℕ) → at p q ≡ at' p q)
     → (p q : ℕ) → cells.lowered s e c at p q ≡ cells.lowered s e c at' p q
 lowered_same s e c at at' same p q = (λ t. cells.lowered s e c (λ p q. same p q t) p q)
+
+-- pairs that were joined had room, and so has the pair that is joined, both ways
+pub laid_room : (x d a b r : Bool) → (x ≡ true → r ≡ true) → (x || (d && (a || b))) ≡ true → (b || (a || r)) ≡ true
+laid_room x d a true r had here = refl
+laid_room x d true false r had here = refl
+laid_room true d false false r had here = had refl
+laid_room false true false false r had here = absurd (let f : false ≡ true = here in cc)
+laid_room false false false false r had here = absurd (let f : false ≡ true = here in cc)

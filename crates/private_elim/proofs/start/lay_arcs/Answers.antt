@@ -9,6 +9,7 @@ loop-k-preserved g c =
     record {
       size = c.lay_arc.ensures.size ∙ was.size;
       joins_size = c.lay_arc.ensures.joins_size ∙ was.joins_size;
+      room = c.in_ok-lay_arc.ensures.room;
       laid = laid_more c.args.local.now c.size-places.ensures.valid c.loop-k.k (search rules) (g.R.Rows.at c.loop-k.rows)
           (g.R.Rows.at c.lay_arc.new.rows)
           (is_joined c.loop-k.joins) (is_joined c.lay_arc.new.joins) was.laid c.in_ok-lay_arc.ensures.arc;

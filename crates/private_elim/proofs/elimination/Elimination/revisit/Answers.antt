@@ -14,7 +14,8 @@ revisit_rows-requires g c =
       at = g.R.Rows.at i.rows;
       joins = i.joins;
       remain = i.remain.items;
-      degrees = i.degrees.items;
+      gone = i.gone.items;
+      room = g.R.Rows.has_room i.rows;
     } in
     let k = c.place_taken-place.result in
     let finals = c.args.finals.now in
@@ -52,7 +53,8 @@ returns-clause-swept g c =
       at = g.R.Rows.at i.rows;
       joins = i.joins;
       remain = i.remain.items;
-      degrees = i.degrees.items;
+      gone = i.gone.items;
+      room = g.R.Rows.has_room i.rows;
     } in
     let k = c.place_taken-place.result in
     let finals = c.args.finals.now in

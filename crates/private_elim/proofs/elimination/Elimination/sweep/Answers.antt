@@ -19,7 +19,8 @@ revisit_all-requires g c κs known =
       at = g.R.Rows.at i.rows;
       joins = i.joins;
       remain = i.remain.items;
-      degrees = i.degrees.items;
+      gone = i.gone.items;
+      room = g.R.Rows.has_room i.rows;
     } in
     let size : g.R.Rows.places c.args.rows ≡ length e.local.points =
     subst (λ (t : TakenView). g.R.Rows.places c.args.rows ≡ length t.local.points) (sym c.self.view_is) c.requires.1.1.1.0 in (
@@ -52,7 +53,8 @@ invariant_of-result g c =
       at = g.R.Rows.at i.rows;
       joins = i.joins;
       remain = i.remain.items;
-      degrees = i.degrees.items;
+      gone = i.gone.items;
+      room = g.R.Rows.has_room i.rows;
     } in
     let many : length i.local.points ≡ length c.in_ok-points.points.items = ap length (sym c.in_ok-points.ensures.points) in
     let size : g.R.Rows.places c.args.rows ≡ length i.local.points =
@@ -77,7 +79,8 @@ returns-clause-only g c summary n m some =
       at = g.R.Rows.at i.rows;
       joins = i.joins;
       remain = i.remain.items;
-      degrees = i.degrees.items;
+      gone = i.gone.items;
+      room = g.R.Rows.has_room i.rows;
     } in
     rw (← c.self.view_is) (swept_only e.local e.order e.at (is_joined e.joins) e.remain c.self.invariant.taken g.entries summary
     c.in_ok-points.points.items c.in_ok-private.private.items (g.R.Rows.at c.revisit_all.new.finals)
@@ -94,7 +97,8 @@ returns-clause-least g c net valid part holds summary n m pair =
       at = g.R.Rows.at i.rows;
       joins = i.joins;
       remain = i.remain.items;
-      degrees = i.degrees.items;
+      gone = i.gone.items;
+      room = g.R.Rows.has_room i.rows;
     } in
     swept_least e.local e.order e.at (is_joined e.joins) e.remain c.self.invariant.taken g.entries summary
     c.in_ok-points.points.items c.in_ok-private.private.items (g.R.Rows.at c.revisit_all.new.finals)
@@ -111,7 +115,8 @@ returns-clause-through g c summary reduced n m some =
       at = g.R.Rows.at i.rows;
       joins = i.joins;
       remain = i.remain.items;
-      degrees = i.degrees.items;
+      gone = i.gone.items;
+      room = g.R.Rows.has_room i.rows;
     } in
     rw (← c.self.view_is) (swept_through e.local e.order e.at (is_joined e.joins) e.remain c.self.invariant.taken g.entries
     c.in_ok-points.points.items c.in_ok-private.private.items (g.R.Rows.at c.revisit_all.new.finals)
