@@ -198,8 +198,8 @@ here_read n rows i j p x k lt at s room =
     subst (λ (y : List Entry). IsHere y j p) (sym (row_read n rows k i lt x at))
     (here_from_known (row_of rows i) p j (k.rising i) s (known_from_room (row_of rows i) j room))
 
--- what is below an offer is below all later ones
-pub before_later : (os : List Offer) (n m x : ℕ) (d : Offer) → AreRising os → n < length os → x < (slice_index_or os n d).place → n + 1 ≤ m → m < length os
+-- what is not above an offer is below all later ones
+pub before_later : (os : List Offer) (n m x : ℕ) (d : Offer) → AreRising os → n < length os → x < (slice_index_or os n d).place + 1 → n + 1 ≤ m → m < length os
     → x < (offer_at os m).place
 before_later os n m x d rising lt less later there =
     let e : slice_index_or os n d ≡ offer_at os n = get_or_default os n d no_offer lt in

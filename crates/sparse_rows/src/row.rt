@@ -1,5 +1,5 @@
 //! One row: the entries of a place, by rising other place.
-ghost use Rattle.std.specs.Prelude.{◌≡◌, ℕ, ◌<◌, ◌≤◌, Bool, true, false, ◌||◌, ◌==◌, Option, Some, None, List, [], if◌then◌else◌, IfOk, IfErr, OnOk, OnErr, length, slice_index_or, ◌≢◌};
+ghost use Rattle.std.specs.Prelude.{◌≡◌, ℕ, ◌+◌, ◌<◌, ◌≤◌, Bool, true, false, ◌||◌, ◌==◌, Option, Some, None, List, [], if◌then◌else◌, IfOk, IfErr, OnOk, OnErr, length, slice_index_or, ◌≢◌};
 ghost use Rattle.dist_rows.specs.declared.cell.Cell.{Cell};
 ghost use Rattle.dist_rows.specs.Cells.{is_lower, lesser};
 ghost use Rattle.sparse_rows.specs.declared.entry.Entry.{Entry};
@@ -111,9 +111,8 @@ impl Row {
         at >= self.len() || !self.is_below(at, u64::from(j))
     }
 
-    /// How many entries have places below j, where the first `from` have. Where they are not many more, this takes a step
-    /// for each.
-    pub fn advance(&self, from: usize, j: u32) -> usize
+    // How many entries have places below j, where the first `from` have, by a walk and then by halving.
+    fn advance_far(&self, from: usize, j: u32) -> usize
         requires rising { IsRising self.now }
         requires within { from ≤ length self.now }
         requires below { (q : ℕ) → q < from → place_at self.now q < j }
@@ -124,6 +123,32 @@ impl Row {
             return at;
         }
         self.seek_from(at, u64::from(j))
+    }
+
+    /// How many entries have places below j, where the first `from` have. Where they are not many more, this takes a step
+    /// for each.
+    pub fn advance(&self, from: usize, j: u32) -> usize
+        requires rising { IsRising self.now }
+        requires within { from ≤ length self.now }
+        requires below { (q : ℕ) → q < from → place_at self.now q < j }
+        ensures { IsSought self.now j result }
+    {
+        if self.is_reached(from, j) {
+            return from;
+        }
+        self.advance_far(from, j)
+    }
+
+    /// How many entries have places up to j, where `at` have places below it.
+    pub fn after(&self, at: usize, j: u32) -> usize
+        requires sought { IsSought self.now j at }
+        ensures within { result ≤ length self.now }
+        ensures upto { (q : ℕ) → q < result → place_at self.now q < j + 1 }
+    {
+        if at < self.len() && self.place(at) == j {
+            return at + 1;
+        }
+        at
     }
 
     // Whether the entry at `at` is of the place j.

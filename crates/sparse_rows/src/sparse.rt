@@ -1,5 +1,5 @@
 //! Rows that take memory only for the pairs with room.
-ghost use Rattle.std.specs.Prelude.{◌≡◌, ◌≢◌, ℕ, ◌<◌, ◌≤◌, Bool, true, false, ◌&&◌, ◌||◌, ◌==◌, Option, Some, None, IfOk, OnOk, OnErr, length, slice_index_or, if◌then◌else◌};
+ghost use Rattle.std.specs.Prelude.{◌≡◌, ◌≢◌, ℕ, ◌+◌, ◌<◌, ◌≤◌, Bool, true, false, ◌&&◌, ◌||◌, ◌==◌, Option, Some, None, IfOk, OnOk, OnErr, length, slice_index_or, if◌then◌else◌};
 ghost use Rattle.dist_rows.specs.declared.cell.Cell.{Cell};
 ghost use Rattle.dist_rows.specs.Cells.{lowered, is_lower, are_neighbours, IsAbove, IsLight, offer_at, AreRising};
 ghost use Rattle.dist_rows.specs.Places.{AreWithin, AreRisingPlaces, is_roomless, count_roomless};
@@ -210,7 +210,7 @@ impl SparseRows {
     }
 
     // Lowers one cell to an offered sum, where the first `from` entries of the row have places below that of the offer.
-    // Says how many have.
+    // Says how many have places up to that.
     fn offer(&mut self, i: u32, from: usize, offer: Offer, by: i128, k: u32) -> usize
         requires within { i < self.old.size }
         requires from { from ≤ length (row_of self.old.rows.items i) }
@@ -222,17 +222,20 @@ impl SparseRows {
         ensures cells { (p q : ℕ) → cells_of self.new.rows.items p q ≡ offered i k by offer (cells_of self.old.rows.items) p q }
         ensures room { (p q : ℕ) → rooms_of self.new.rows.items p q ≡ rooms_of self.old.rows.items p q }
         ensures within { result ≤ length (row_of self.new.rows.items i) }
-        ensures before { (q : ℕ) → q < result → place_at (row_of self.new.rows.items i) q < offer.place }
+        ensures before { (q : ℕ) → q < result → place_at (row_of self.new.rows.items i) q < offer.place + 1 }
     {
-        let at = self.row(i).advance(from, offer.place);
-        if offer.place != i {
-            let cell = Cell {
-                weight: by + offer.weight,
-                via: Via::Through(k),
-            };
-            self.write(i, at, offer.place, cell);
+        if offer.place == i {
+            return from;
         }
-        at
+        let row = self.row(i);
+        let at = row.advance(from, offer.place);
+        let next = row.after(at, offer.place);
+        let cell = Cell {
+            weight: by + offer.weight,
+            via: Via::Through(k),
+        };
+        self.write(i, at, offer.place, cell);
+        next
     }
 
     // Lowers the cell of an entry.
@@ -356,10 +359,11 @@ impl Rows for SparseRows {
 
     fn read_row(&self, i: u32, others: &[u32], cells: &mut [Option<Cell>]) {
         let row = self.row(i);
-        let mut at = 0;
+        let mut from = 0;
         for n in 0..others.len() {
-            at = row.advance(at, others[n]);
+            let at = row.advance(from, others[n]);
             cells[n] = row.cell(at, others[n]);
+            from = row.after(at, others[n]);
         }
     }
 
