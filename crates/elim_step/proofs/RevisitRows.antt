@@ -1,25 +1,22 @@
 -- A revisit row by row, part by part: one row at a block, all rows at a block, and all blocks.
 --   least-joined                the least of sums over one list and then over another
---   out_lowered, both_lowered   what the reading of one row lowers
---   block-none, block-more, block-away      one row more
+--   backs-none, backs-more, backs-away, out-more    one row more
+--   outs-none, outs-more        one place more
+--   block-whole                 all rows at a block
 --   rows-none, rows-more, rows-away         one block more
-use Rattle.std.proofs.Common.{◌≡◌, ◌≢◌, ℕ, List, [], ◌∷◌, ◌++◌, Bool, true, false, ◌&&◌, ◌||◌, not, Option, Some, None, ap, sym}
+use Rattle.std.proofs.Common.{◌≡◌, ◌≢◌, ℕ, List, [], ◌∷◌, ◌++◌, Bool, true, false, ◌&&◌, ◌||◌, Option, Some, None, ap, sym}
 use Rattle.std.proofs.Common.{◌∙◌, refl, arith, subst}
-use Rattle.std.specs.Prelude.{ℤ, ◌<ℤ◌, ◌≤ℤ◌, ◌==◌, if◌then◌else◌, int_lt}
-use Rattle.std.proofs.Math.Bool.{and-false}
+use Rattle.std.specs.Prelude.{◌<ℤ◌, ◌≤ℤ◌, ◌==◌, if◌then◌else◌, int_lt}
 use Rattle.std.proofs.lemmas.Bool.Decides.{nat_tests}
 use Rattle.std.proofs.lemmas.Int.{ints}
 use Rattle.dist_rows.specs.declared.cell.Cell.{Cell}
-use Rattle.dist_rows.specs.declared.cell.Offer.{Offer}
-use Rattle.dist_rows.specs.Cells.{after_offer, row_lowered}
 use Rattle.stn_walk.specs.Eliminations.{is_in}
 use Rattle.stn_walk.proofs.Members.{is_in-push, is_in-apart}
-use Rattle.elim_step.specs.Eliminates.{lesser_of, sum_through}
-use Rattle.elim_step.specs.Offered.{offer_for, AreOffers}
-use Rattle.elim_step.specs.Revisits.{reach_of, out_sum, in_sum, least_over, sum_lowered}
-use Rattle.elim_step.specs.RevisitRows.{row_after, block_after, rows_after}
+use Rattle.elim_step.specs.Eliminates.{lesser_of}
+use Rattle.elim_step.specs.Revisits.{out_sum, in_sum, least_over, sum_lowered}
+use Rattle.elim_step.specs.RevisitRows.{outs_after, backs_after, block_after, rows_after}
 use Rattle.elim_step.proofs.Parts.{is_in-append}
-use Rattle.elim_step.proofs.Revisits.{least_over-push, least_over-same, out-same, in-same, same_left}
+use Rattle.elim_step.proofs.Revisits.{least_over-push, least_over-same, out-same, in-same, same_left, same_right}
 
 -- the lesser of three cells
 lesser_joined : (x y z : Option Cell) → lesser_of x (lesser_of y z) ≡ lesser_of (lesser_of x y) z
@@ -62,97 +59,34 @@ least-joined : (sum : ℕ → Option Cell) (x : Option Cell) (xs ys : List ℕ)
     → lesser_of (least_over sum x xs) (least_over sum None ys) ≡ least_over sum x (xs ++ ys)
 least-joined sum x xs ys = lesser_behind sum (least_over sum x xs) None ys ∙ sym (least_append sum x xs ys)
 
--- offers of a row to a block lower the row of k
-pub out_lowered : (k j : ℕ) (first : Cell) (by : ℤ) (block : List ℕ) (os : List Offer) (f : ℕ → ℕ → Option Cell) → by ≡ first.weight → is_in block k ≡ false
-    → AreOffers (reach_of f j) block os → (p q : ℕ)
-    → row_lowered k j by os f p q
-    ≡ (if (p == k) && is_in block q then lesser_of (f p q) (sum_through j (Some first) (reach_of f j q)) else f p q)
-out_lowered k j first by block os f same away are p q =
-    rw (are.each q, same) (elim (q == k) as (λ t. (q == k) ≡ t
-    → (if (p == k) && not t then after_offer j first.weight (if is_in block q then offer_for q (reach_of f j q) else None) (f p q) else f p q)
-    ≡ (if (p == k) && is_in block q then lesser_of (f p q) (sum_through j (Some first) (reach_of f j q)) else f p q)) [
-      | true ↦ λ h.
-          let e : q ≡ k = grind (arith, nat_tests) in
-          let none : is_in block q ≡ false = rw e away in
-          rw (none, and-false (p == k)) refl
-      | false ↦ λ h. chosen (p == k) (is_in block q) (reach_of f j q) (f p q)
-    ] refl) where
-      offered : (c old : Option Cell) → after_offer j first.weight (offer_for q c) old ≡ lesser_of old (sum_through j (Some first) c)
-      offered None old = refl
-      offered (Some c) old = refl
-
-      chosen : (a b : Bool) (c old : Option Cell)
-          → (if a && true then after_offer j first.weight (if b then offer_for q c else None) old else old)
-          ≡ (if a && b then lesser_of old (sum_through j (Some first) c) else old)
-      chosen true true c old = offered c old
-      chosen true false c old = refl
-      chosen false b c old = refl
-
--- where there is no cell to j, nothing is lowered
-pub out_without : (k j : ℕ) (block : List ℕ) (f : ℕ → ℕ → Option Cell) (p q : ℕ)
-    → f p q ≡ (if (p == k) && is_in block q then lesser_of (f p q) (sum_through j None (reach_of f j q)) else f p q)
-out_without k j block f p q =
-    elim ((p == k) && is_in block q) as (λ t. f p q ≡ (if t then lesser_of (f p q) (sum_through j None (reach_of f j q)) else f p q))
-    [ true ↦ refl | false ↦ refl ]
-
--- both directions of a row
-pub both_lowered : (forward : ℕ → ℕ → Option Cell) (k j : ℕ) (block : List ℕ) (f g h : ℕ → ℕ → Option Cell) (least : Option Cell) → j ≢ k
-    → ((p q : ℕ) → g p q ≡ (if (p == k) && is_in block q then lesser_of (f p q) (out_sum forward f k q j) else f p q))
-    → least ≡ least_over (in_sum forward f k j) None block → ((p q : ℕ) → h p q ≡ sum_lowered j k least g p q)
-    → (p q : ℕ) → h p q ≡ row_after forward k j block f p q
-both_lowered forward k j block f g h least apart out is lowered p q =
-    lowered p q
-    ∙ (λ t. if (p == j) && (q == k) then lesser_of (out p q t) (is t) else out p q t)
-    ∙ chosen ((p == k) && is_in block q) (p == j) (q == k) (p == k) (is_in block q) (f p q) (out_sum forward f k q j)
-    (least_over (in_sum forward f k j) None block) refl (not_both p k j apart) where
-      not_both : (p k j : ℕ) → j ≢ k → ((p == j) && (p == k)) ≡ false
-      not_both p k j apart = grind (arith, nat_tests)
-
-      chosen : (a pj qk pk qb : Bool) (x o i : Option Cell) → a ≡ (pk && qb) → (pj && pk) ≡ false
-          → (if pj && qk then lesser_of (if a then lesser_of x o else x) i else (if a then lesser_of x o else x))
-          ≡ (if a then lesser_of x o else (if pj && qk then lesser_of x i else x))
-      chosen true true qk true qb x o i e n = absurd (cc)
-      chosen true true qk false qb x o i e n = absurd (cc)
-      chosen true false qk pk qb x o i e n = refl
-      chosen false true true pk qb x o i e n = refl
-      chosen false true false pk qb x o i e n = refl
-      chosen false false qk pk qb x o i e n = refl
-
 -- no row
-pub block-none : (forward : ℕ → ℕ → Option Cell) (k : ℕ) (block : List ℕ) (f : ℕ → ℕ → Option Cell) (p q : ℕ) → f p q ≡ block_after forward k block [] f p q
-block-none forward k block f p q =
-    chosen ((p == k) && is_in block q) (q == k) (f p q) (lesser_of (f p q) (least_over (in_sum forward f k p) None block)) where
-      chosen : (a b : Bool) (x i : Option Cell) → x ≡ (if a then x else (if b && false then i else x))
-      chosen true b x i = refl
-      chosen false true x i = refl
-      chosen false false x i = refl
+pub backs-none : (forward : ℕ → ℕ → Option Cell) (k : ℕ) (block : List ℕ) (f : ℕ → ℕ → Option Cell) (p q : ℕ) → f p q ≡ backs_after forward k block [] f p q
+backs-none forward k block f p q = chosen (q == k) (f p q) (lesser_of (f p q) (least_over (in_sum forward f k p) None block)) where
+  chosen : (a : Bool) (x i : Option Cell) → x ≡ (if a && false then i else x)
+  chosen true x i = refl
+  chosen false x i = refl
 
--- cells away from k stay
-pub block-away : (forward : ℕ → ℕ → Option Cell) (k : ℕ) (block done : List ℕ) (f : ℕ → ℕ → Option Cell) (p q : ℕ) → p ≢ k → q ≢ k
-    → block_after forward k block done f p q ≡ f p q
-block-away forward k block done f p q first second =
-    let a : (p == k) ≡ false = grind (arith, nat_tests) in
-    let b : (q == k) ≡ false = grind (arith, nat_tests) in
-    rw (a, b) refl
+-- cells to another place than k stay
+pub backs-away : (forward : ℕ → ℕ → Option Cell) (k : ℕ) (block done : List ℕ) (f : ℕ → ℕ → Option Cell) (p q : ℕ) → q ≢ k
+    → backs_after forward k block done f p q ≡ f p q
+backs-away forward k block done f p q apart = (let b : (q == k) ≡ false = grind (arith, nat_tests) in rw b refl)
 
 -- one row more
-pub block-more : (forward : ℕ → ℕ → Option Cell) (k j : ℕ) (block done : List ℕ) (f : ℕ → ℕ → Option Cell) → j ≢ k → is_in done j ≡ false
+pub backs-more : (forward : ℕ → ℕ → Option Cell) (k j : ℕ) (block done : List ℕ) (f : ℕ → ℕ → Option Cell) → is_in done j ≡ false
     → is_in block k ≡ false → (p q : ℕ)
-    → row_after forward k j block (block_after forward k block done f) p q ≡ block_after forward k block (done ++ j ∷ []) f p q
-block-more forward k j block done f apart fresh away p q =
-    let g = block_after forward k block done f in
+    → sum_lowered j k (least_over (in_sum forward (backs_after forward k block done f) k j) None block) (backs_after forward k block done f) p q
+    ≡ backs_after forward k block (done ++ j ∷ []) f p q
+backs-more forward k j block done f fresh away p q =
+    let g = backs_after forward k block done f in
     let ins : least_over (in_sum forward g k j) None block ≡ least_over (in_sum forward f k j) None block =
     least_over-same (in_sum forward g k j) (in_sum forward f k j) None block
-    (λ m here. in-same forward g f k j m (block-away forward k block done f j m apart (is_in-apart block m k here away))) in
+    (λ m here. in-same forward g f k j m (backs-away forward k block done f j m (is_in-apart block m k here away))) in
     let L : ℕ → Option Cell = λ y. least_over (in_sum forward f k y) None block in
     let I : ℕ → Option Cell = λ y. lesser_of (g p q) (L y) in
-    (λ t. if (p == k) && is_in block q then lesser_of (g p q) (out_sum forward g k q j) else (if (p == j) && (q == k) then lesser_of (g p q) (ins t) else g p q))
-    ∙ ap (λ z. if (p == k) && is_in block q then lesser_of (g p q) (out_sum forward g k q j) else z) (same_left (q == k) p j I (g p q))
-    ∙ first
-    ∙ chosen (p == k) (is_in block q) (p == j) (q == k) (is_in done p) (f p q) (least_over (out_sum forward f k q) (f p q) done)
-    (out_sum forward f k q j) (L p) (done_once p)
-    ∙ (λ t. if (p == k) && is_in block q then sym (least_over-push (out_sum forward f k q) (f p q) done j) t
-    else (if (q == k) && sym (is_in-push done j p) t then lesser_of (f p q) (L p) else f p q)) where
+    (λ t. if (p == j) && (q == k) then lesser_of (g p q) (ins t) else g p q)
+    ∙ same_left (q == k) p j I (g p q)
+    ∙ chosen (p == j) (q == k) (is_in done p) (f p q) (L p) (done_once p)
+    ∙ (λ t. if (q == k) && sym (is_in-push done j p) t then lesser_of (f p q) (L p) else f p q) where
       done_once : (p : ℕ) → ((p == j) && is_in done p) ≡ false
       done_once p =
           elim (p == j) as (λ b. (p == j) ≡ b → (b && is_in done p) ≡ false) [
@@ -160,48 +94,78 @@ block-more forward k j block done f apart fresh away p q =
             | false ↦ λ t. refl
           ] refl
 
-      -- in the row of k the place of the block is not k, so what is read there is as it was
-      first : (if (p == k) && is_in block q then lesser_of (block_after forward k block done f p q) (out_sum forward (block_after forward k block done f) k q j)
-          else (if (p == j) && (q == k) then lesser_of (block_after forward k block done f p q) (least_over (in_sum forward f k p) None block)
-          else block_after forward k block done f p q))
-          ≡ (if (p == k) && is_in block q then lesser_of (block_after forward k block done f p q) (out_sum forward f k q j)
-          else (if (p == j) && (q == k) then lesser_of (block_after forward k block done f p q) (least_over (in_sum forward f k p) None block)
-          else block_after forward k block done f p q))
-      first =
-          let g = block_after forward k block done f in
-          elim (is_in block q) as (λ b. is_in block q ≡ b
-          → (if (p == k) && b then lesser_of (g p q) (out_sum forward g k q j) else (if (p == j) && (q == k) then lesser_of (g p q) (least_over (in_sum forward f k p) None block) else g p q))
-          ≡ (if (p == k) && b then lesser_of (g p q) (out_sum forward f k q j) else (if (p == j) && (q == k) then lesser_of (g p q) (least_over (in_sum forward f k p) None block) else g p q))) [
-            | true ↦ λ here.
-                let same : out_sum forward g k q j ≡ out_sum forward f k q j =
-                out-same forward g f k q j (block-away forward k block done f j q apart (is_in-apart block q k here away)) in
-                (λ t. if (p == k) && true then lesser_of (g p q) (same t)
-                else (if (p == j) && (q == k) then lesser_of (g p q) (least_over (in_sum forward f k p) None block) else g p q))
-            | false ↦ λ here. off (p == k) (lesser_of (g p q) (out_sum forward g k q j)) (lesser_of (g p q) (out_sum forward f k q j))
-                (if (p == j) && (q == k) then lesser_of (g p q) (least_over (in_sum forward f k p) None block) else g p q)
-          ] refl where
-            off : (a : Bool) (x y z : Option Cell) → (if a && false then x else z) ≡ (if a && false then y else z)
-            off true x y z = refl
-            off false x y z = refl
+      chosen : (pj qk pd : Bool) (x l : Option Cell) → (pj && pd) ≡ false
+          → (if pj && qk then lesser_of (if qk && pd then lesser_of x l else x) l else (if qk && pd then lesser_of x l else x))
+          ≡ (if qk && (pd || pj) then lesser_of x l else x)
+      chosen true true true x l e = absurd (cc)
+      chosen true true false x l e = refl
+      chosen true false pd x l e = refl
+      chosen false true true x l e = refl
+      chosen false true false x l e = refl
+      chosen false false pd x l e = refl
 
-      chosen : (pk qb pj qk pd : Bool) (x O o l : Option Cell) → (pj && pd) ≡ false
-          → (if pk && qb then lesser_of (if pk && qb then O else (if qk && pd then lesser_of x l else x)) o
-          else (if pj && qk then lesser_of (if pk && qb then O else (if qk && pd then lesser_of x l else x)) l
-          else (if pk && qb then O else (if qk && pd then lesser_of x l else x))))
-          ≡ (if pk && qb then lesser_of O o else (if qk && (pd || pj) then lesser_of x l else x))
-      chosen true true pj qk pd x O o l e = refl
-      chosen true false true true true x O o l e = absurd (cc)
-      chosen true false true true false x O o l e = refl
-      chosen true false true false pd x O o l e = refl
-      chosen true false false true true x O o l e = refl
-      chosen true false false true false x O o l e = refl
-      chosen true false false false pd x O o l e = refl
-      chosen false qb true true true x O o l e = absurd (cc)
-      chosen false qb true true false x O o l e = refl
-      chosen false qb true false pd x O o l e = refl
-      chosen false qb false true true x O o l e = refl
-      chosen false qb false true false x O o l e = refl
-      chosen false qb false false pd x O o l e = refl
+-- no place
+pub outs-none : (k : ℕ) (sum : ℕ → Option Cell) (f : ℕ → ℕ → Option Cell) (p q : ℕ) → f p q ≡ outs_after k sum [] f p q
+outs-none k sum f p q = chosen (p == k) (f p q) (lesser_of (f p q) (sum q)) where
+  chosen : (a : Bool) (x o : Option Cell) → x ≡ (if a && false then o else x)
+  chosen true x o = refl
+  chosen false x o = refl
+
+-- one place more
+pub outs-more : (k j : ℕ) (sum : ℕ → Option Cell) (done : List ℕ) (f : ℕ → ℕ → Option Cell) → is_in done j ≡ false → (p q : ℕ)
+    → sum_lowered k j (sum j) (outs_after k sum done f) p q ≡ outs_after k sum (done ++ j ∷ []) f p q
+outs-more k j sum done f fresh p q =
+    let g = outs_after k sum done f in
+    same_right (p == k) q j (λ y. lesser_of (g p q) (sum y)) (g p q)
+    ∙ chosen (p == k) (q == j) (is_in done q) (f p q) (sum q) (done_once q)
+    ∙ (λ t. if (p == k) && sym (is_in-push done j q) t then lesser_of (f p q) (sum q) else f p q) where
+      done_once : (p : ℕ) → ((p == j) && is_in done p) ≡ false
+      done_once p =
+          elim (p == j) as (λ b. (p == j) ≡ b → (b && is_in done p) ≡ false) [
+            | true ↦ λ t. let e : j ≡ p = grind (arith, nat_tests) in subst (λ y. is_in done y ≡ false) e fresh
+            | false ↦ λ t. refl
+          ] refl
+
+      chosen : (pk qj qd : Bool) (x o : Option Cell) → (qj && qd) ≡ false
+          → (if pk && qj then lesser_of (if pk && qd then lesser_of x o else x) o else (if pk && qd then lesser_of x o else x))
+          ≡ (if pk && (qd || qj) then lesser_of x o else x)
+      chosen true true true x o e = absurd (cc)
+      chosen true true false x o e = refl
+      chosen true false true x o e = refl
+      chosen true false false x o e = refl
+      chosen false qj qd x o e = refl
+
+-- a sum through one place more
+pub out-more : (forward : ℕ → ℕ → Option Cell) (k j q : ℕ) (block done : List ℕ) (f : ℕ → ℕ → Option Cell) → q ≢ k
+    → lesser_of (least_over (out_sum forward f k q) None done) (out_sum forward (backs_after forward k block done f) k q j)
+    ≡ least_over (out_sum forward f k q) None (done ++ j ∷ [])
+out-more forward k j q block done f apart =
+    let g = backs_after forward k block done f in
+    ap (λ o. lesser_of (least_over (out_sum forward f k q) None done) o) (out-same forward g f k q j (backs-away forward k block done f j q apart))
+    ∙ sym (least_over-push (out_sum forward f k q) None done j)
+
+-- the cells to k and then those from k
+pub block-whole : (forward : ℕ → ℕ → Option Cell) (k : ℕ) (block later : List ℕ) (f : ℕ → ℕ → Option Cell) → is_in block k ≡ false → (p q : ℕ)
+    → outs_after k (λ y. least_over (out_sum forward f k y) None later) block (backs_after forward k block later f) p q
+    ≡ block_after forward k block later f p q
+block-whole forward k block later f away p q =
+    chosen (p == k) (is_in block q) (q == k) (is_in later p) (f p q) (least_over (out_sum forward f k q) None later)
+    (least_over (out_sum forward f k q) (f p q) later) (lesser_of (f p q) (least_over (in_sum forward f k p) None block))
+    (least-joined (out_sum forward f k q) (f p q) [] later) column_k where
+      column_k : ((q == k) && is_in block q) ≡ false
+      column_k =
+          elim (q == k) as (λ b. (q == k) ≡ b → (b && is_in block q) ≡ false) [
+            | true ↦ λ t. let e : k ≡ q = grind (arith, nat_tests) in subst (λ y. is_in block y ≡ false) e away
+            | false ↦ λ t. refl
+          ] refl
+
+      chosen : (pk qb qk pl : Bool) (x o O I : Option Cell) → lesser_of x o ≡ O → (qk && qb) ≡ false
+          → (if pk && qb then lesser_of (if qk && pl then I else x) o else (if qk && pl then I else x))
+          ≡ (if pk && qb then O else (if qk && pl then I else x))
+      chosen true true true pl x o O I e n = absurd (cc)
+      chosen true true false pl x o O I e n = e
+      chosen true false qk pl x o O I e n = refl
+      chosen false qb qk pl x o O I e n = refl
 
 -- no block
 pub rows-none : (forward : ℕ → ℕ → Option Cell) (k : ℕ) (later : List ℕ) (f : ℕ → ℕ → Option Cell) (p q : ℕ) → f p q ≡ rows_after forward k later [] f p q

@@ -104,7 +104,7 @@ places-ahead forward k done later f j apart ahead =
     rw (ahead, b) (elim (k == k) as
     (λ c. (if c && false then least_over (out_sum forward f k j) (f k j) later else f k j) ≡ f k j) [ true ↦ refl | false ↦ refl ])
 
-same_right : (a : Bool) (q j : ℕ) (P : ℕ → Option Cell) (x : Option Cell) → (if a && (q == j) then P j else x) ≡ (if a && (q == j) then P q else x)
+pub same_right : (a : Bool) (q j : ℕ) (P : ℕ → Option Cell) (x : Option Cell) → (if a && (q == j) then P j else x) ≡ (if a && (q == j) then P q else x)
 same_right false q j P x = refl
 same_right true q j P x =
     elim (q == j) as (λ b. (q == j) ≡ b → (if b then P j else x) ≡ (if b then P q else x)) [

@@ -5,12 +5,13 @@ use Rattle.elim_step.specs.Eliminates.{lesser_of}
 use Rattle.stn_walk.specs.Eliminations.{is_in}
 use Rattle.elim_step.specs.Revisits.{out_sum, in_sum, least_over}
 
--- after the row of j is read at a block: the cells from k to the block through j, and that from j to k through the block
-abbrev pub row_after : (ℕ → ℕ → Option Cell) → ℕ → ℕ → List ℕ → (ℕ → ℕ → Option Cell) → ℕ → ℕ → Option Cell
-row_after forward k j block f p q =
-    if (p == k) && is_in block q then lesser_of (f p q) (out_sum forward f k q j)
-    else (if (p == j) && (q == k) then lesser_of (f p q) (least_over (in_sum forward f k j) None block)
-    else f p q)
+-- after the cells from k to these places are lowered to sums
+abbrev pub outs_after : ℕ → (ℕ → Option Cell) → List ℕ → (ℕ → ℕ → Option Cell) → ℕ → ℕ → Option Cell
+outs_after k sum done f p q = if (p == k) && is_in done q then lesser_of (f p q) (sum q) else f p q
+
+-- after the cells from these places to k are lowered through a block
+abbrev pub backs_after : (ℕ → ℕ → Option Cell) → ℕ → List ℕ → List ℕ → (ℕ → ℕ → Option Cell) → ℕ → ℕ → Option Cell
+backs_after forward k block done f p q = if (q == k) && is_in done p then lesser_of (f p q) (least_over (in_sum forward f k p) None block) else f p q
 
 -- after the rows of these places are read at a block
 abbrev pub block_after : (ℕ → ℕ → Option Cell) → ℕ → List ℕ → List ℕ → (ℕ → ℕ → Option Cell) → ℕ → ℕ → Option Cell

@@ -5,13 +5,12 @@ ghost use Rattle.dist_rows.specs.Cells.{AllLight, IsLight};
 ghost use Rattle.dist_rows.specs.Places.{AreWithin, AreRisingPlaces};
 ghost use Rattle.elim_step.specs.Eliminates.{lesser_of, sum_through};
 ghost use Rattle.elim_step.specs.Offered.{AreCells};
-ghost use Rattle.elim_step.specs.Revisits.{reach_of, reach_to, out_sum, least_over, Revisits};
-ghost use Rattle.elim_step.specs.RevisitRows.{row_after, block_after, rows_after};
+ghost use Rattle.elim_step.specs.Revisits.{reach_of, reach_to, in_sum, out_sum, least_over, sum_lowered, Revisits};
+ghost use Rattle.elim_step.specs.RevisitRows.{outs_after, block_after, rows_after};
 ghost use Rattle.stn_walk.specs.Eliminations.{is_in};
 
 use crate::block::{ROOM, part_from};
 use crate::lower::sum_of;
-use crate::offers::Offers;
 use crate::revisit::lower_to;
 use crate::steps::Steps;
 use dist_rows::{Cell, Rows, Via};
@@ -45,7 +44,9 @@ fn read_reach<R: Rows>(finals: &R, j: u32, block: &[u32], row: &mut [Option<Cell
 {
     finals.read_row(j, block, row);
     for n in 0..block.len() {
-        row[n] = reaching(j, block[n], row[n]);
+        if block[n] == j {
+            row[n] = reaching(j, block[n], row[n]);
+        }
     }
 }
 
@@ -60,6 +61,16 @@ fn read_back<R: Rows>(forward: &R, k: u32, block: &[u32], back: &mut [Option<Cel
 {
     for n in 0..block.len() {
         back[n] = forward.get(block[n], k);
+    }
+}
+
+// Whether a sum is there and is written over a cell: there is no cell, or its weight is strictly greater.
+fn is_lesser(sum: Option<Cell>, cell: Option<Cell>) -> bool
+    ensures { lesser_of cell sum ≡ (if result then sum else cell) }
+{
+    match sum {
+        None => false,
+        Some(sum) => sum.is_below(cell),
     }
 }
 
@@ -94,37 +105,61 @@ fn least_sum(block: &[u32], row: &[Option<Cell>], back: &[Option<Cell>]) -> Opti
     least
 }
 
-// Lowers the cells from k to the places of a block through j, by the cells from k to j and from j to these.
-fn lower_out<R: Rows>(
-    finals: &mut R,
-    k: u32,
-    j: u32,
-    first: Option<Cell>,
-    block: &[u32],
-    row: &[Option<Cell>],
-)
-    requires within { k < R.places finals.old }
-    requires rising { AreRisingPlaces block.now }
-    requires few { length block.now ≤ 64 }
-    requires away { is_in block.now k ≡ false }
-    requires len { length row.now ≡ length block.now }
-    requires cells { AreCells (reach_of (R.at finals.old) j) block.now row.now }
-    requires light { (m : ℕ) → m < length block.now → IfSome (slice_index_or row.now m None) (λ c. IsLight 99 c.weight) }
+// Takes out what stands in a buffer.
+fn clear(cells: &mut [Option<Cell>])
+    ensures len { length cells.new ≡ length cells.old }
+    ensures none { (m : ℕ) → m < length cells.old → slice_index_or cells.new m None ≡ None }
+{
+    for n in 0..cells.len() {
+        cells[n] = None;
+    }
+}
+
+// Lowers a cell to a sum, where it is there.
+fn lower_sum(cell: &mut Option<Cell>, sum: Option<Cell>)
+    requires light { (IfSome cell.old (λ c. IsLight 100 c.weight)) × (IfSome sum (λ c. IsLight 100 c.weight)) }
+    ensures value { cell.new ≡ lesser_of cell.old sum }
+    ensures light { IfSome cell.new (λ c. IsLight 100 c.weight) }
+{
+    if is_lesser(sum, *cell) {
+        *cell = sum;
+    }
+}
+
+// Lowers sums to those through j, by the cell from k to j and those from j on.
+fn lower_sums(j: u32, first: Option<Cell>, row: &[Option<Cell>], sums: &mut [Option<Cell>])
+    requires len { length sums.old ≡ length row.now }
     requires first { IfSome first (λ c. IsLight 99 c.weight) }
+    requires row { (m : ℕ) → m < length row.now → IfSome (slice_index_or row.now m None) (λ c. IsLight 99 c.weight) }
+    requires sums { (m : ℕ) → m < length row.now → IfSome (slice_index_or sums.old m None) (λ c. IsLight 100 c.weight) }
+    ensures len { length sums.new ≡ length row.now }
+    ensures value { (m : ℕ) → m < length row.now → slice_index_or sums.new m None ≡ lesser_of (slice_index_or sums.old m None) (sum_through j first (slice_index_or row.now m None)) }
+    ensures light { (m : ℕ) → m < length row.now → IfSome (slice_index_or sums.new m None) (λ c. IsLight 100 c.weight) }
+{
+    for n in 0..row.len() {
+        lower_sum(&mut sums[n], sum_of(j, first, row[n]));
+    }
+}
+
+// Lowers the cells from k to the places of a block to these sums.
+fn lower_out<R: Rows>(finals: &mut R, k: u32, block: &[u32], sums: &[Option<Cell>])
+    requires rising { AreRisingPlaces block.now }
+    requires away { is_in block.now k ≡ false }
+    requires len { length sums.now ≡ length block.now }
+    requires light { (m : ℕ) → m < length block.now → IfSome (slice_index_or sums.now m None) (λ c. IsLight 100 c.weight) }
     requires room { (q : ℕ) → is_in block.now q ≡ true → R.has_room finals.old k q ≡ true }
-    ensures cells { (p q : ℕ) → R.at finals.new p q ≡ (if (p == k) && is_in block.now q then lesser_of (R.at finals.old p q) (sum_through j first (reach_of (R.at finals.old) j q)) else R.at finals.old p q) }
+    ensures cells { (f : ℕ → Option Cell) → AreCells f block.now sums.now → (p q : ℕ) → R.at finals.new p q ≡ outs_after k f block.now (R.at finals.old) p q }
     ensures room { (p q : ℕ) → R.has_room finals.new p q ≡ R.has_room finals.old p q }
     ensures places { R.places finals.new ≡ R.places finals.old }
     ensures roomy { R.is_roomy finals.new ≡ R.is_roomy finals.old }
 {
-    let Some(cell) = first else {
-        return;
-    };
-    let offers = Offers::to(block, row);
-    finals.lower_row(k, offers.as_slice(), cell.weight, j);
+    for n in 0..block.len() {
+        lower_to(finals, k, block[n], sums[n]);
+    }
 }
 
-// Lowers the cells from k to the places of a block through j, and that from j to k through these.
+// Lowers the cell from j to k through the places of a block, and the sums from k to these to those through j. The row is
+// for what is read.
 fn revisit_row<R: Rows, L: Ledger>(
     forward: &R,
     finals: &mut R,
@@ -132,6 +167,8 @@ fn revisit_row<R: Rows, L: Ledger>(
     j: u32,
     block: &[u32],
     back: &[Option<Cell>],
+    row: &mut [Option<Cell>],
+    sums: &mut [Option<Cell>],
     steps: &mut Steps<L>,
 )
     requires forward_within { (k < R.places forward.now) × (j < R.places forward.now) }
@@ -139,26 +176,29 @@ fn revisit_row<R: Rows, L: Ledger>(
     requires apart { j ≢ k }
     requires others { AreWithin (R.places finals.old) block.now }
     requires rising { AreRisingPlaces block.now }
-    requires few { length block.now ≤ 64 }
     requires away { is_in block.now k ≡ false }
     requires back_len { length back.now ≡ length block.now }
+    requires row_len { length row.old ≡ length block.now }
+    requires sums_len { length sums.old ≡ length block.now }
     requires back { AreCells (λ m. R.at forward.now m k) block.now back.now }
-    requires room_out { (q : ℕ) → is_in block.now q ≡ true → R.has_room finals.old k q ≡ true }
+    requires sums { (m : ℕ) → m < length block.now → IfSome (slice_index_or sums.old m None) (λ c. IsLight 100 c.weight) }
     requires room_back { R.has_room finals.old j k ≡ true }
     requires forward { AllLight 99 (R.at forward.now) }
     requires finals { (p q : ℕ) → p ≢ k → q ≢ k → IfSome (R.at finals.old p q) (λ c. IsLight 99 c.weight) }
-    ensures cells { (p q : ℕ) → R.at finals.new p q ≡ row_after (R.at forward.now) k j block.now (R.at finals.old) p q }
+    ensures row_len { length row.new ≡ length block.now }
+    ensures sums_len { length sums.new ≡ length block.now }
+    ensures sums { (m : ℕ) → m < length block.now → slice_index_or sums.new m None ≡ lesser_of (slice_index_or sums.old m None) (out_sum (R.at forward.now) (R.at finals.old) k (slice_index_or block.now m 0) j) }
+    ensures light { (m : ℕ) → m < length block.now → IfSome (slice_index_or sums.new m None) (λ c. IsLight 100 c.weight) }
+    ensures cells { (p q : ℕ) → R.at finals.new p q ≡ sum_lowered j k (least_over (in_sum (R.at forward.now) (R.at finals.old) k j) None block.now) (R.at finals.old) p q }
     ensures room { (p q : ℕ) → R.has_room finals.new p q ≡ R.has_room finals.old p q }
     ensures places { R.places finals.new ≡ R.places finals.old }
     ensures roomy { R.is_roomy finals.new ≡ R.is_roomy finals.old }
     ensures steps { steps.new ≡ steps.old + 2 * length block.now }
 {
     steps.count(2 * block.len() as u64);
-    let mut buffer = [None; ROOM];
-    let row = &mut buffer[..block.len()];
     read_reach(finals, j, block, row);
+    lower_sums(j, forward.get(k, j), row, sums);
     let least = least_sum(block, row, back);
-    lower_out(finals, k, j, forward.get(k, j), block, row);
     lower_to(finals, j, k, least);
 }
 
@@ -192,12 +232,18 @@ fn revisit_block<R: Rows, L: Ledger>(
     ensures roomy { R.is_roomy finals.new ≡ R.is_roomy finals.old }
     ensures steps { steps.new ≡ steps.old + 2 * length block.now * length later.now }
 {
-    let mut buffer = [None; ROOM];
-    let back = &mut buffer[..block.len()];
+    let mut backs = [None; ROOM];
+    let back = &mut backs[..block.len()];
     read_back(forward, k, block, back);
+    let mut outs = [None; ROOM];
+    let sums = &mut outs[..block.len()];
+    clear(sums);
+    let mut read = [None; ROOM];
+    let row = &mut read[..block.len()];
     for &j in later {
-        revisit_row(forward, finals, k, j, block, back, steps);
+        revisit_row(forward, finals, k, j, block, back, row, sums, steps);
     }
+    lower_out(finals, k, block, sums);
 }
 
 // Lowers the cells between k and the later places through these, a block at a time.

@@ -1,9 +1,13 @@
-use Rattle.std.proofs.Common.{ap, sym, ◌∙◌, arith, rules, take, get_or}
-use Rattle.std.proofs.lemmas.List.{take_more}
+use Rattle.std.proofs.Common.{◌≡◌, ap, sym, ◌∙◌, arith, rules, take, get_or, ℕ, Option}
+use Rattle.std.proofs.lemmas.List.{take_more, take_all}
+use Rattle.std.specs.Prelude.{None}
+use Rattle.dist_rows.specs.declared.cell.Cell.{Cell}
 use Rattle.stn_walk.proofs.Members.{is_in-at, is_in-apart}
-use Rattle.elim_step.specs.RevisitRows.{row_after, block_after}
+use Rattle.elim_step.specs.Eliminates.{lesser_of}
+use Rattle.elim_step.specs.Revisits.{in_sum, out_sum, least_over, sum_lowered}
+use Rattle.elim_step.specs.RevisitRows.{outs_after, backs_after}
 use Rattle.elim_step.proofs.Parts.{ahead_fresh}
-use Rattle.elim_step.proofs.RevisitRows.{block-more, block-away}
+use Rattle.elim_step.proofs.RevisitRows.{backs-more, backs-away, out-more, block-whole}
 use Rattle.elim_step.proofs.rising_revisit.revisit_block.Goals as goal
 
 pub revisit_row-requires : goal.revisit_row-requires
@@ -20,17 +24,18 @@ revisit_row-requires g c =
       apart = is_in-apart ns j k here c.requires.later_away;
       others = λ m l. rw was.places (c.requires.others m l);
       rising = c.requires.rising;
-      few = c.requires.few;
       away = c.requires.away;
       back_len = c.read_back.ensures.len;
+      row_len = was.row_len;
+      sums_len = was.sums_len;
       back = c.read_back.ensures.cells;
-      room_out = λ q at_q. was.room k q ∙ c.requires.room_out q at_q;
+      sums = was.light;
       room_back = was.room j k ∙ c.requires.room_back j here;
       forward = c.requires.forward;
       finals =
           λ p q first second. rw (
             was.cells p q,
-            block-away (g.R.Rows.at c.args.forward.now) k c.args.block.now (take n ns) (g.R.Rows.at c.args.finals.now) p q first second,
+            backs-away (g.R.Rows.at c.args.forward.now) k c.args.block.now (take n ns) (g.R.Rows.at c.args.finals.now) p q second,
           )
           (c.requires.finals p q first second);
     }
@@ -46,14 +51,42 @@ loop-j-preserved g c =
     let f = g.R.Rows.at c.args.finals.now in
     let was = c.loop-j.invariant in
     let now = c.revisit_row.ensures in
-    let apart = is_in-apart ns j k (is_in-at ns n (search rules)) c.requires.later_away in
     record {
       cells = λ p q.
-          now.cells p q ∙ (λ t. row_after fw k j block (λ a b. was.cells a b t) p q)
-          ∙ block-more fw k j block (take n ns) f apart (ahead_fresh ns n c.requires.later_rising (search rules)) c.requires.away p q
-          ∙ ap (λ xs. block_after fw k block xs f p q) (sym (take_more ns n 0 (search rules)));
+          now.cells p q
+          ∙ (λ t. sum_lowered j k (least_over (in_sum fw (λ a b. was.cells a b t) k j) None block) (λ a b. was.cells a b t) p q)
+          ∙ backs-more fw k j block (take n ns) f (ahead_fresh ns n c.requires.later_rising (search rules)) c.requires.away p q
+          ∙ ap (λ xs. backs_after fw k block xs f p q) (sym (take_more ns n 0 (search rules)));
+      sums = λ m l.
+          (let q = get_or block m 0 in
+          now.sums m l
+          ∙ (λ t. lesser_of (was.sums m l t) (out_sum fw (λ a b. was.cells a b t) k q j))
+          ∙ out-more fw k j q block (take n ns) f (is_in-apart block q k (is_in-at block m l) c.requires.away)
+          ∙ ap (λ xs. least_over (out_sum fw f k q) None xs) (sym (take_more ns n 0 (search rules))));
+      light = now.light;
+      sums_len = now.sums_len;
+      row_len = now.row_len;
       room = λ p q. now.room p q ∙ was.room p q;
       places = now.places ∙ was.places;
       roomy = now.roomy ∙ was.roomy;
       steps = grind arith;
     }
+
+pub lower_out-requires-clause-room : goal.lower_out-requires-clause-room
+lower_out-requires-clause-room g c = λ q here. c.loop-j.invariant.room c.args.k q ∙ c.requires.room_out q here
+
+pub returns-clause-cells : goal.returns-clause-cells
+returns-clause-cells g c =
+    let ns = c.args.later.now in
+    let k = c.args.k in
+    let block = c.args.block.now in
+    let fw = g.R.Rows.at c.args.forward.now in
+    let f = g.R.Rows.at c.args.finals.now in
+    let was = c.loop-j.invariant in
+    let all : take c.loop-j.j-index ns ≡ ns = take_all c.loop-j.j-index ns (search rules) in
+    let sum : ℕ → Option Cell = λ y. least_over (out_sum fw f k y) None ns in
+    λ p q.
+    c.lower_out.ensures.cells sum (λ m l. was.sums m l ∙ (λ t. least_over (out_sum fw f k (get_or block m 0)) None (all t))) p q
+    ∙ (λ t. outs_after k sum block (λ a b. was.cells a b t) p q)
+    ∙ (λ t. outs_after k sum block (backs_after fw k block (all t) f) p q)
+    ∙ block-whole fw k block ns f c.requires.away p q
