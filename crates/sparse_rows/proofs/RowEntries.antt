@@ -226,6 +226,18 @@ here_from_known es p j rising s known =
       | false ↦ λ l. gone (λ lt. (let no : length es ≤ p = grind (arith, nat_tests) in absurd (omega (arith, no, lt))))
     ] refl
 
+-- up to the entry of a place that is known no place is above
+pub known_end : (es : List Entry) (p j : ℕ) → IsRising es → IsSought es j p → knows es j ≡ true → p < length es
+known_end es p j rising s known = (here_from_known es p j rising s known).within
+
+pub known_upto : (es : List Entry) (p j : ℕ) → IsRising es → IsSought es j p → knows es j ≡ true → (q : ℕ) → q < p + 1 → place_at es q < j + 1
+known_upto es p j rising s known q less =
+    let is : place_at es p ≡ j = (here_from_known es p j rising s known).place in
+    elim (q == p) as (λ b. (q == p) ≡ b → place_at es q < j + 1) [
+      | true ↦ λ h. (let e : q ≡ p = grind (arith, nat_tests) in rw e (omega (arith, is)))
+      | false ↦ λ h. (let l : q < p = grind (arith, nat_tests) in omega (arith, s.below q l))
+    ] refl
+
 -- the cell of a place, where a search for it has ended
 pub cell_there : (es : List Entry) (p j : ℕ) → IsSought es j p → p < length es → place_at es p ≡ j → cell_in (slice_index_or es p no_entry) ≡ cell_at es j
 cell_there es p j s lt is = sym (ap cell_of (found es p j s.below lt is))

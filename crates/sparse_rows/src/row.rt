@@ -139,8 +139,8 @@ impl Row {
         self.advance_far(from, j)
     }
 
-    /// How many entries have places up to j, where `at` have places below it.
-    pub fn after(&self, at: usize, j: u32) -> usize
+    // How many entries have places up to j, where `at` have places below it.
+    fn after(&self, at: usize, j: u32) -> usize
         requires sought { IsSought self.now j at }
         ensures within { result ≤ length self.now }
         ensures upto { (q : ℕ) → q < result → place_at self.now q < j + 1 }
@@ -149,6 +149,19 @@ impl Row {
             return at + 1;
         }
         at
+    }
+
+    /// How many entries have places up to j, where `at` have places below it and the entry of j stands there.
+    pub fn behind(&self, at: usize, j: u32) -> usize
+        requires rising { IsRising self.now }
+        requires sought { IsSought self.now j at }
+        requires known { knows self.now j ≡ true }
+        ensures within { result ≤ length self.now }
+        ensures upto { (q : ℕ) → q < result → place_at self.now q < j + 1 }
+    {
+        let end = self.len();
+        prove!(at < end);
+        at + 1
     }
 
     // Whether the entry at `at` is of the place j.
@@ -239,6 +252,25 @@ impl Row {
             return self.entry(at).cell();
         }
         None
+    }
+
+    /// The cell at a place, where the first `from` entries have places below it, and how many have places up to it.
+    /// Where they are not many more, this takes a step for each.
+    pub fn cell_from(&self, from: usize, j: u32) -> (usize, Option<Cell>)
+        requires rising { IsRising self.now }
+        requires within { from ≤ length self.now }
+        requires below { (q : ℕ) → q < from → place_at self.now q < j }
+        ensures value { result.1 ≡ cell_at self.now j }
+        ensures within { result.0 ≤ length self.now }
+        ensures upto { (q : ℕ) → q < result.0 → place_at self.now q < j + 1 }
+    {
+        let end = self.len();
+        if self.is_at(from, j) {
+            prove!(from < end);
+            return (from + 1, self.entry(from).cell());
+        }
+        let at = self.advance(from, j);
+        (self.after(at, j), self.cell(at, j))
     }
 
     /// The cell of an entry.

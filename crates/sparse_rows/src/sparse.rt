@@ -229,7 +229,7 @@ impl SparseRows {
         }
         let row = self.row(i);
         let at = row.advance(from, offer.place);
-        let next = row.after(at, offer.place);
+        let next = row.behind(at, offer.place);
         let cell = Cell {
             weight: by + offer.weight,
             via: Via::Through(k),
@@ -361,9 +361,9 @@ impl Rows for SparseRows {
         let row = self.row(i);
         let mut from = 0;
         for n in 0..others.len() {
-            let at = row.advance(from, others[n]);
-            cells[n] = row.cell(at, others[n]);
-            from = row.after(at, others[n]);
+            let (next, cell) = row.cell_from(from, others[n]);
+            cells[n] = cell;
+            from = next;
         }
     }
 
