@@ -80,10 +80,7 @@ fn lesser(first: Option<Cell>, second: Option<Cell>) -> Option<Cell>
     ensures value { result ≡ lesser_of first second }
     ensures light { IfSome result (λ c. IsLight 100 c.weight) }
 {
-    let Some(cell) = second else {
-        return first;
-    };
-    if cell.is_below(first) {
+    if is_lesser(second, first) {
         return second;
     }
     first
@@ -279,7 +276,8 @@ fn revisit_blocks<R: Rows, L: Ledger>(
 }
 
 /// Revisits a place k as `revisit_point` does, where the later places rise: the row of each later place is read at these
-/// once, and both cells between it and k are lowered by that. No column of the finals is read.
+/// once, a block at a time. By that the cell from it to k is lowered, and so are the sums from k to the block, which are
+/// written once all rows are read. No column of the finals is read.
 ///
 /// `later` is not empty, rises, and does not have k. The finals have room for the pairs of k with each later place, and no
 /// cells there yet. All weights have magnitude at most 2^99. Takes no memory. One step is one sum looked at.
