@@ -2,3 +2,4 @@ pub mod interfaces
 pub mod states
 pub mod cells
 pub mod networks
+pub mod graphs

@@ -2,3 +2,4 @@
 pub mod Tables
 pub mod Fitting
 pub mod SharedPoints
+pub mod SameLists

@@ -8,3 +8,11 @@ pub mod Together
 pub mod Laws
 pub mod Examples
 pub mod Views
+pub mod Graphs
+pub mod Publications
+pub mod Takes
+pub mod Firsts
+pub mod Journals
+pub mod Histories
+pub mod Legs
+pub mod Readiness

@@ -1,6 +1,7 @@
 //! What all agents know of a network from the start.
-ghost use Rattle.std.specs.Prelude.{◌≡◌, ◌↔◌, ◌∷◌, [], ◌++◌, ◌<◌, IfOk, IsTrue, length, map, nat_eq, if◌then◌else◌, None};
+ghost use Rattle.std.specs.Prelude.{◌≡◌, ◌↔◌, ◌∷◌, [], ◌++◌, ◌<◌, IfOk, IsTrue, length, map, nat_eq, slice_index_or, if◌then◌else◌, None};
 ghost use Rattle.std.specs.Option.{option_map};
+ghost use Rattle.stn_model.specs.declared.ids.Lean.TheVariants.{Early};
 ghost use Rattle.stn_model.specs.Arcs.{arc_at};
 ghost use Rattle.stn_model.specs.Net.{point_count, arcs_of, owner_of};
 ghost use Rattle.stn_model.specs.Kinds.{is_external, is_shared};
@@ -11,6 +12,7 @@ ghost use Rattle.shared_graph.specs.Interfaces.{IsInterface, IsFitting, IsEnd, p
 use crate::lists::push_where;
 use elim_step::Summary;
 use std::alloc::Global;
+use std::cmp::max;
 use std::marker::Model;
 use stn_model::{AgentId, Constraint, Kind, Lean, Network, OutOfMemory, PointId};
 
@@ -67,6 +69,21 @@ impl Interface {
         self.leans.len() as u32
     }
 
+    /// The lean of an agent.
+    pub fn lean(&self, agent: AgentId) -> Lean
+        requires { agent.0 < length self.now.leans }
+        ensures { result ≡ slice_index_or self.now.leans agent.0 Early }
+    {
+        self.leans[agent.0 as usize]
+    }
+
+    /// The horizon: the greatest time of any point.
+    pub fn horizon(&self) -> i64
+        ensures { result ≡ self.now.horizon }
+    {
+        self.horizon
+    }
+
     /// The shared points, by number.
     pub fn points(&self) -> &[PointId]
         ensures points { map (λ p. p.0) result.now ≡ points_of self.now }
@@ -100,6 +117,14 @@ impl Interface {
         self.externals[e as usize]
     }
 
+    /// The external arcs, by place.
+    pub(crate) fn external_arcs(&self) -> &[Constraint]
+        ensures arcs { result.now ≡ self.now.externals }
+        ensures valid { IsInterface self.now }
+    {
+        &self.externals
+    }
+
     /// Whether the summary fits the agent: true exactly where each of its entries names only the reference point and shared points of that agent.
     pub fn fits(&self, agent: AgentId, summary: &Summary) -> bool
         requires { agent.0 < length self.now.leans }
@@ -130,12 +155,64 @@ impl Interface {
         })
     }
 
+    /// Whether two interfaces are equal.
+    pub(crate) fn is_same(&self, other: &Interface) -> bool
+        ensures { IsTrue result ↔ (self.now ≡ other.now) }
+    {
+        if self.horizon != other.horizon {
+            return false;
+        }
+        if !same_leans(self.leans.as_slice(), other.leans.as_slice()) {
+            return false;
+        }
+        if !same_owners(self.owners.as_slice(), other.owners.as_slice()) {
+            return false;
+        }
+        same_arcs(self.externals.as_slice(), other.externals.as_slice())
+    }
+
     /// Whether the point is the reference point or a shared point of the agent.
     fn is_end(&self, agent: AgentId, p: PointId) -> bool
         ensures { IsTrue result ↔ IsEnd self.now agent.0 p.0 }
     {
         p.0 == 0 || self.owner(p) == Some(agent)
     }
+}
+
+// Whether two lists of leans are equal.
+fn same_leans(one: &[Lean], other: &[Lean]) -> bool
+    ensures { IsTrue result ↔ (one.now ≡ other.now) }
+{
+    one == other
+}
+
+// Whether two tables list the same owners, by point.
+fn same_owners(one: &[Option<AgentId>], other: &[Option<AgentId>]) -> bool
+    ensures { IsTrue result ↔ (listed_from 0 one.now ≡ listed_from 0 other.now) }
+{
+    for p in 0..max(one.len(), other.len()) {
+        if owner_at(one, p) != owner_at(other, p) {
+            return false;
+        }
+    }
+    true
+}
+
+// The owner in a table of a point by number, where it has one.
+fn owner_at(owners: &[Option<AgentId>], p: usize) -> Option<AgentId>
+    ensures { result ≡ slice_index_or owners.now p None }
+{
+    if p < owners.len() {
+        return owners[p];
+    }
+    None
+}
+
+// Whether two lists of arcs are equal.
+fn same_arcs(one: &[Constraint], other: &[Constraint]) -> bool
+    ensures { IsTrue result ↔ (one.now ≡ other.now) }
+{
+    one == other
 }
 
 /// The agents' leans, by number.

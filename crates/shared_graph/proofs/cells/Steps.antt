@@ -8,12 +8,12 @@ use Rattle.stn_model.specs.declared.ids.Constraint.{Constraint}
 use Rattle.stn_walk.specs.Eliminations.{is_in, cell_of, before_both, lesser, sum_of, bound_of}
 use Rattle.stn_walk.specs.Joins.{has_edge, joined_of}
 use Rattle.stn_walk.proofs.Eliminations.{before-whole, before-in}
-use Rattle.shared_graph.specs.declared.events.Event.TheVariants.{Publish, Eliminate, Revisit}
+use Rattle.shared_graph.specs.declared.events.Event.TheVariants.{Eliminate, Revisit}
 use Rattle.shared_graph.specs.Interfaces.{InterfaceView, Summary, IsInterface, IsFitting}
-use Rattle.shared_graph.specs.States.{agent_id, point_id, State, is_published, agent_arcs, meeting_of}
+use Rattle.shared_graph.specs.States.{point_id, State, Published, is_published, agent_arcs, meeting_of}
 use Rattle.shared_graph.specs.Weights.{forward, is_joined, final, final_weight}
-use Rattle.shared_graph.specs.Replays.{after, summary_of}
-use Rattle.shared_graph.proofs.states.Keeps.{IsSound, new_outside, made}
+use Rattle.shared_graph.specs.Replays.{after}
+use Rattle.shared_graph.proofs.states.Keeps.{IsSound, new_outside}
 
 -- the lesser of three, in any order
 swap_some : (a b c : ℤ) → lesser (lesser (Some a) (Some b)) (Some c) ≡ lesser (lesser (Some a) (Some c)) (Some b)
@@ -37,11 +37,11 @@ swap_some a b c =
     ] refl
 
 -- a missing number changes nothing
-none_right : (x : Option ℤ) → lesser x None ≡ x
+pub none_right : (x : Option ℤ) → lesser x None ≡ x
 none_right None = refl
 none_right (Some a) = refl
 
-lesser_turned : (a b : ℤ) → lesser (Some a) (Some b) ≡ lesser (Some b) (Some a)
+pub lesser_turned : (a b : ℤ) → lesser (Some a) (Some b) ≡ lesser (Some b) (Some a)
 lesser_turned a b =
     elim (int_lt b a) as (λ x. int_lt b a ≡ x → (if x then Some b else Some a) ≡ (if int_lt a b then Some a else Some b)) [
       | true ↦ λ x. (let f : int_lt a b ≡ false = grind (arith, ints) in sym (ap (λ u. if u then Some a else Some b) f))
@@ -61,7 +61,7 @@ lesser_swap (Some a) (Some b) None = none_right (lesser (Some a) (Some b))
 lesser_swap (Some a) (Some b) (Some c) = swap_some a b c
 
 -- the least bound over two lists
-bound_both : (arcs new : List Constraint) (i j : ℕ) → bound_of (arcs ++ new) i j ≡ lesser (bound_of arcs i j) (bound_of new i j)
+pub bound_both : (arcs new : List Constraint) (i j : ℕ) → bound_of (arcs ++ new) i j ≡ lesser (bound_of arcs i j) (bound_of new i j)
 bound_both [] new i j = refl
 bound_both (a ∷ arcs) new i j =
     elim ((a.from.0 == i) && (a.to.0 == j)) as (λ b. (if b then lesser (bound_of (arcs ++ new) i j) (Some a.bound) else bound_of (arcs ++ new) i j)
@@ -70,7 +70,7 @@ bound_both (a ∷ arcs) new i j =
       | false ↦ bound_both arcs new i j
     ]
 
-edge_both : (arcs new : List Constraint) (i j : ℕ) → has_edge (arcs ++ new) i j ≡ (has_edge arcs i j || has_edge new i j)
+pub edge_both : (arcs new : List Constraint) (i j : ℕ) → has_edge (arcs ++ new) i j ≡ (has_edge arcs i j || has_edge new i j)
 edge_both [] new i j = refl
 edge_both (a ∷ arcs) new i j =
     ap (λ b. (((a.from.0 == i) && (a.to.0 == j)) || ((a.from.0 == j) && (a.to.0 == i))) || b) (edge_both arcs new i j)
@@ -80,7 +80,7 @@ edge_both (a ∷ arcs) new i j =
       assoc false y z = refl
 
 -- no new arc is at a point of the set
-abbrev Misses : List Constraint → ℕ → Type 0
+abbrev pub Misses : List Constraint → ℕ → Type 0
 Misses new k = (a : Constraint) → Contains new a → (a.from.0 ≢ k) × (a.to.0 ≢ k)
 
 rest_misses : (a : Constraint) (new : List Constraint) (k : ℕ) → Misses (a ∷ new) k → Misses new k
@@ -102,7 +102,7 @@ bound_from (a ∷ new) k j miss =
     let off : (a.from.0 == k) ≡ false = (let apart = (miss a (0, omega arith, refl)).0 in grind (arith, nat_tests)) in
     ap (λ b. if b && (a.to.0 == j) then lesser (bound_of new k j) (Some a.bound) else bound_of new k j) off ∙ bound_from new k j (rest_misses a new k miss)
 
-edge_at : (new : List Constraint) (i k : ℕ) → Misses new k → (has_edge new i k ≡ false) × (has_edge new k i ≡ false)
+pub edge_at : (new : List Constraint) (i k : ℕ) → Misses new k → (has_edge new i k ≡ false) × (has_edge new k i ≡ false)
 edge_at [] i k miss = (refl, refl)
 edge_at (a ∷ new) i k miss =
     let apart = miss a (0, omega arith, refl) in
@@ -164,25 +164,25 @@ joined_both arcs new (k ∷ es) miss i j =
       swapped false false false = refl
 
 -- a publish
-pub publish_lowers : (face : InterfaceView) → IsInterface face → (s : State) → IsSound face s → (summaries : List Summary) (a : ℕ)
-    → IsFitting face a (summary_of summaries a) → is_published s a ≡ false
+pub publish_lowers : (face : InterfaceView) → IsInterface face → (s : State) → IsSound face s → (told : Published)
+    → IsFitting face told.agent told.entries → is_published s told.agent ≡ false
     → (i j : ℕ)
-    → (forward face (after face summaries s (Publish (agent_id a))) i j ≡ lesser (forward face s i j) (bound_of (agent_arcs face (made summaries a)) i j))
-    × (is_joined face (after face summaries s (Publish (agent_id a))) i j
-    ≡ (is_joined face s i j || (not (i == j) && has_edge (agent_arcs face (made summaries a)) i j)))
-publish_lowers face known s sound summaries a fits fresh i j = (
-  cell_both (meeting_of face s) (agent_arcs face (made summaries a)) (before_both s.order i j) misses i j,
-  ap (λ b. not (i == j) && b) (joined_both (meeting_of face s) (agent_arcs face (made summaries a)) (before_both s.order i j) misses i j)
-      ∙ spread (not (i == j)) (joined_of (meeting_of face s) (before_both s.order i j) i j) (has_edge (agent_arcs face (made summaries a)) i j),
+    → (forward face (record s { published = told ∷ s.published }) i j ≡ lesser (forward face s i j) (bound_of (agent_arcs face told) i j))
+    × (is_joined face (record s { published = told ∷ s.published }) i j
+    ≡ (is_joined face s i j || (not (i == j) && has_edge (agent_arcs face told) i j)))
+publish_lowers face known s sound told fits fresh i j = (
+  cell_both (meeting_of face s) (agent_arcs face told) (before_both s.order i j) misses i j,
+  ap (λ b. not (i == j) && b) (joined_both (meeting_of face s) (agent_arcs face told) (before_both s.order i j) misses i j)
+      ∙ spread (not (i == j)) (joined_of (meeting_of face s) (before_both s.order i j) i j) (has_edge (agent_arcs face told) i j),
 ) where
   spread : (x y z : Bool) → (x && (y || z)) ≡ ((x && y) || (x && z))
   spread true y z = refl
   spread false y z = refl
 
-  misses : (k : ℕ) → is_in (before_both s.order i j) k ≡ true → Misses (agent_arcs face (made summaries a)) k
+  misses : (k : ℕ) → is_in (before_both s.order i j) k ≡ true → Misses (agent_arcs face told) k
   misses k h x there =
       let inside = before-in s.order i j k h in
-      let out = new_outside face known s sound summaries a fits fresh x there in (
+      let out = new_outside face known s sound told fits fresh x there in (
         λ e. absurd (let f : is_in s.order k ≡ false = subst (λ q. is_in s.order q ≡ false) e out.0 in cc),
         λ e. absurd (let f : is_in s.order k ≡ false =
             subst (λ q. is_in s.order q ≡ false) e out.1 in cc),

@@ -74,6 +74,12 @@ slice_get_past (x ∷ xs) (suc i) high = slice_get_past xs i (omega arith)
 pub owner_is : (owners : List (Option AgentId)) (p : ℕ) → owner_among (listed_from 0 owners) p ≡ found (slice_get owners p)
 owner_is owners p = (let e : p ≡ 0 + p = omega arith in ap (owner_among (listed_from 0 owners)) e ∙ owner_from 0 p owners)
 
+-- what a table has in a row, by number, where a row past the end has none
+pub found_is : (owners : List (Option AgentId)) (p : ℕ) → found (slice_get owners p) ≡ option_map (λ (a : AgentId). a.0) (get_or owners p None)
+found_is [] p = refl
+found_is (o ∷ owners) zero = refl
+found_is (o ∷ owners) (suc p) = found_is owners p
+
 pub owner_missing : (owners now : List (Option AgentId)) (p : ℕ) → now ≡ owners → false ≡ nat_lt p (length now)
     → None ≡ owner_among (listed_from 0 owners) p
 owner_missing owners now p e h =

@@ -23,7 +23,7 @@ use Rattle.shared_graph.proofs.states.Meetings.{IsPlace, meeting_ends}
 use Rattle.shared_graph.proofs.states.Rising.{Rises, all_rise}
 
 -- a member stands at some place
-member_at : (xs : List ℕ) (p : ℕ) → is_in xs p ≡ true → IsListed xs p
+pub member_at : (xs : List ℕ) (p : ℕ) → is_in xs p ≡ true → IsListed xs p
 member_at [] p h = absurd (cc)
 member_at (x ∷ xs) p h = elim (or_cases (is_in xs p) (p == x) h) [
   | inl later ↦ (let r = member_at xs p later in let lt = r.1 in (suc r.0, omega arith, r.2))
@@ -36,7 +36,7 @@ rises_low low [] h k lt = absurd (omega arith)
 rises_low low (x ∷ xs) h zero lt = h.0
 rises_low low (x ∷ xs) h (suc k) lt = (let more = rises_low (suc x) xs h.1 k (omega arith) in let le = h.0 in omega arith)
 
-rises_apart : (low : ℕ) (xs : List ℕ) → Rises low xs → (i j : ℕ) → i < length xs → j < length xs → point_at xs i ≡ point_at xs j → i ≡ j
+pub rises_apart : (low : ℕ) (xs : List ℕ) → Rises low xs → (i j : ℕ) → i < length xs → j < length xs → point_at xs i ≡ point_at xs j → i ≡ j
 rises_apart low [] h i j one two e = absurd (omega arith)
 rises_apart low (x ∷ xs) h zero zero one two e = refl
 rises_apart low (x ∷ xs) h zero (suc j) one two e = absurd (let more = rises_low (suc x) xs h.1 j (omega arith) in omega arith)
@@ -58,7 +58,7 @@ module _ (face : InterfaceView) (known : IsInterface face) where
         | inr to ↦ (let e : some.1.to.0 ≡ p = grind (arith, nat_tests) in let lt = w.ends in omega arith)
       ]
 
-  place_listed : (p : ℕ) → IsPlace face p → IsListed (0 ∷ points_of face) p
+  pub place_listed : (p : ℕ) → IsPlace face p → IsListed (0 ∷ points_of face) p
   place_listed p (inl z) = (0, omega arith, sym z)
   place_listed p (inr listed) = (let r = member_at (points_of face) p (listed_in face.points p listed) in let lt = r.1 in (suc r.0, omega arith, r.2))
 

@@ -23,14 +23,14 @@ use Rattle.shared_graph.specs.declared.events.Event.{Event}
 use Rattle.shared_graph.specs.declared.events.Entry.{Entry}
 use Rattle.shared_graph.specs.declared.events.Event.TheVariants.{Publish, Eliminate, Stop, Revisit, Assign, Widen}
 use Rattle.shared_graph.specs.Interfaces.{InterfaceView, Summary, IsInterface, IsEnd, IsFitting, points_of, is_listed}
-use Rattle.shared_graph.specs.States.{agent_id, point_id, State, Published, Assigned, start, is_published, is_revisited, agent_arcs, meeting_of}
+use Rattle.shared_graph.specs.States.{point_id, State, Published, Assigned, start, is_published, is_revisited, agent_arcs, meeting_of}
 use Rattle.shared_graph.specs.Weights.{forward, is_joined, is_later, final, final_weight, least_negative, is_negative, sums_below}
 use Rattle.shared_graph.specs.Refusals.{refusal, cause_of}
 use Rattle.shared_graph.specs.Replays.{after, summary_of, replay}
 use Rattle.shared_graph.specs.Together.{IsWhole, IsOwned, IsStop, IsRevisit, HasFinal, HoldsTogether}
 use Rattle.shared_graph.proofs.states.Passing.{passing_none, listed_in, no_stop, publish_passes, eliminate_passes, stop_passes, revisit_passes}
 use Rattle.shared_graph.proofs.states.ArcLists.{single_none_below, least_all}
-use Rattle.shared_graph.proofs.states.Meetings.{IsPlace, IsAgentArc, agent_arc, meeting_ends, listed_of, not_z, pair_meets}
+use Rattle.shared_graph.proofs.states.Meetings.{IsPlace, agent_arc, meeting_ends, listed_of, not_z, pair_meets}
 
 false_of : (b : Bool) → (b ≡ true → ⊥) → b ≡ false
 false_of true h = absurd (h refl)
@@ -82,7 +82,8 @@ module _ (face : InterfaceView) (known : IsInterface face) where
         (cell-least (meeting_of face s) (0 ∷ s.order) (λ p w h. light p w (inner_in (is_in (0 ∷ s.order)) every (meeting_of face s) p p w (λ q t. refl) h)) i j)
 
     -- the horizon arcs of a point of a whole order
-    whole_pair : IsWhole face s → (k : ℕ) (a : Constraint) → is_listed face k ≡ true → Contains (horizon_pair face.horizon k) a → Contains (meeting_of face s) a
+    pub whole_pair : IsWhole face s → (k : ℕ) (a : Constraint) → is_listed face k ≡ true → Contains (horizon_pair face.horizon k) a
+        → Contains (meeting_of face s) a
     whole_pair whole k a listed h =
         let o = sound.owned k (whole k listed) in
         pair_meets face o.0 k s.published a o.1 (listed_in face.points k listed) o.2 h
@@ -269,25 +270,22 @@ module _ (face : InterfaceView) (known : IsInterface face) where
     new_end a fresh p (inr owner) = false_of (is_in s.order p) (λ h. let o = sound.owned p h in let is = o.1 in let yes = o.2 in let e : o.0 ≡ a = cc in
         let f : is_published s a ≡ true = subst (λ x. is_published s x ≡ true) e yes in absurd (cc))
 
-    pub new_outside : (summaries : List Summary) (a : ℕ) → IsFitting face a (summary_of summaries a) → is_published s a ≡ false
-        → IsOutside (is_in s.order) (agent_arcs face (made summaries a))
-    new_outside summaries a fits fresh x h = (let ends = agent_arc face known (made summaries a) fits x h in
-        (new_end a fresh x.from.0 ends.0, new_end a fresh x.to.0 ends.1))
+    pub new_outside : (told : Published) → IsFitting face told.agent told.entries → is_published s told.agent ≡ false
+        → IsOutside (is_in s.order) (agent_arcs face told)
+    new_outside told fits fresh x h = (let ends = agent_arc face known told fits x h in
+        (new_end told.agent fresh x.from.0 ends.0, new_end told.agent fresh x.to.0 ends.1))
 
-    published : (summaries : List Summary) (a : ℕ) → IsFitting face a (summary_of summaries a) → s.stop ≡ None → a < length face.leans
-        → is_published s a ≡ false → IsSound face (after face summaries s (Publish (agent_id a)))
-    published summaries a fits going low fresh = record {
-      none_below = publishes_nonnegative (is_in s.order) (meeting_of face s) (agent_arcs face (made summaries a)) (new_outside summaries a fits fresh)
-          (λ x h. (joins x h).2) sound.none_below;
-      owned = λ p h. (let o = sound.owned p h in (o.0, o.1, ap (λ b. b || (o.0 == a)) o.2));
-      revisits = λ p h. absurd (let w = (sound.revisits p h).all_published a low in cc);
+    pub published : (told : Published) → IsFitting face told.agent told.entries → s.stop ≡ None → told.agent < length face.leans
+        → is_published s told.agent ≡ false → IsSound face (record s { published = told ∷ s.published })
+    published told fits going low fresh = record {
+      none_below = publishes_nonnegative (is_in s.order) (meeting_of face s) (agent_arcs face told) (new_outside told fits fresh)
+          (λ x h. (agent_arc face known told fits x h).2) sound.none_below;
+      owned = λ p h. (let o = sound.owned p h in (o.0, o.1, ap (λ b. b || (o.0 == told.agent)) o.2));
+      revisits = λ p h. absurd (let w = (sound.revisits p h).all_published told.agent low in cc);
       stops = λ t h. absurd (cc);
       fitting = fit;
     } where
-      joins : (x : Constraint) → Contains (agent_arcs face (made summaries a)) x → IsAgentArc face a x
-      joins x h = agent_arc face known (made summaries a) fits x h
-
-      fit : (p : Published) → Contains (made summaries a ∷ s.published) p → IsFitting face p.agent p.entries
+      fit : (p : Published) → Contains (told ∷ s.published) p → IsFitting face p.agent p.entries
       fit p (zero, lt, is) = subst (λ (q : Published). IsFitting face q.agent q.entries) is fits
       fit p (suc n, lt, is) = sound.fitting p (n, omega arith, is)
 
@@ -308,7 +306,7 @@ module _ (face : InterfaceView) (known : IsInterface face) where
     -- a legal entry keeps the state sound
     pub keeps : (summaries : List Summary) → ((a : ℕ) → IsFitting face a (summary_of summaries a)) → (by : By) (event : Event) → s.stop ≡ None
         → cause_of face s by event ≡ None → IsSound face (after face summaries s event)
-    keeps summaries fits by (Publish a) going h = (let p = publish_passes face s by a.0 h in published summaries a.0 (fits a.0) going p.0 p.1)
+    keeps summaries fits by (Publish a) going h = (let p = publish_passes face s by a.0 h in published (made summaries a.0) (fits a.0) going p.0 p.1)
     keeps summaries fits by (Eliminate k) going h = (let p = eliminate_passes face s by k.0 h in eliminated summaries k.0 going p.0 p.1 p.2)
     keeps summaries fits by (Stop k i) going h = (let p = stop_passes face s by k.0 i.0 h in stopped summaries k.0 i.0 p.0 p.1 p.2)
     keeps summaries fits by (Assign k value) going h = still_sound (after face summaries s (Assign k value)).assigned

@@ -73,7 +73,7 @@ module _ (face : InterfaceView) (known : IsInterface face) where
         | inr entry ↦ (let e = map_contains summary_arc p.entries a entry in let f = fits e.0 e.1 in subst (IsAgentArc face p.agent) (sym e.2) (f.0, f.1, f.2))
       ]
 
-  place_of_end : (agent p : ℕ) → IsEnd face agent p → IsPlace face p
+  pub place_of_end : (agent p : ℕ) → IsEnd face agent p → IsPlace face p
   place_of_end agent p (inl z) = inl z
   place_of_end agent p (inr owner) = inr (listed_of face p agent owner)
 

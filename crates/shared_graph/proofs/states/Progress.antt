@@ -22,14 +22,14 @@ use Rattle.shared_graph.proofs.states.Keeps.{IsSound, later_place}
 use Rattle.shared_graph.proofs.cells.Neighbours.{later_parts}
 use Rattle.shared_graph.proofs.states.Stops.{negative_stops}
 
-all_below : (test : ℕ → Bool) (n : ℕ) → ((a : ℕ) → a < n → test a ≡ false) → first_below test n ≡ None
+pub all_below : (test : ℕ → Bool) (n : ℕ) → ((a : ℕ) → a < n → test a ≡ false) → first_below test n ≡ None
 all_below test zero h = refl
 all_below test (suc n) h =
     let rest = all_below test n (λ a lt. h a (omega arith)) in
     let here = h n (omega arith) in
     (λ t. or_number (rest t) (if here t then Some n else None))
 
-all_listed : (test : ℕ → Bool) (ps : List ℕ) → ((p : ℕ) → is_in ps p ≡ true → test p ≡ false) → first_passing test ps ≡ None
+pub all_listed : (test : ℕ → Bool) (ps : List ℕ) → ((p : ℕ) → is_in ps p ≡ true → test p ≡ false) → first_passing test ps ≡ None
 all_listed test [] h = refl
 all_listed test (p ∷ ps) h =
     let here : test p ≡ false = h p (let same : (p == p) ≡ true = grind (arith, nat_tests) in ap (λ b. is_in ps p || b) same ∙ or-true (is_in ps p)) in

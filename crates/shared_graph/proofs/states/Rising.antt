@@ -61,7 +61,7 @@ points_rise face known = rises_from 1 face.points known.rising (points_above fac
 pub all_rise : (face : InterfaceView) → IsInterface face → Rises 0 (0 ∷ points_of face)
 all_rise face known = (omega arith, points_rise face known)
 
-rises_in : (low : ℕ) (xs : List ℕ) (p : ℕ) → Rises low xs → is_in xs p ≡ true → low ≤ p
+pub rises_in : (low : ℕ) (xs : List ℕ) (p : ℕ) → Rises low xs → is_in xs p ≡ true → low ≤ p
 rises_in low [] p h there = absurd (cc)
 rises_in low (x ∷ xs) p h there = elim (or_cases (is_in xs p) (p == x) there) [
   | inl later ↦ (let more = rises_in (suc x) xs p h.1 later in let le = h.0 in omega arith)

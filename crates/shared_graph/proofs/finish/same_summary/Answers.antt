@@ -1,0 +1,5 @@
+use Rattle.shared_graph.proofs.interfaces.SameLists.{same_lists, told_decide}
+use Rattle.shared_graph.proofs.finish.same_summary.Goals as goal
+
+pub returns : goal.returns
+returns c = same_lists c.eq.result c.args.one.now c.args.other.now c.eq.ensures told_decide

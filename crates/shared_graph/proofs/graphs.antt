@@ -1,0 +1,27 @@
+-- What the fields of a graph say in the terms of its state.
+pub mod Standing
+pub mod Scans
+pub mod FirstTimes
+pub mod Refusing
+pub mod Histories
+pub mod Replaying
+pub mod Finishing
+pub mod SameEntries
+pub mod Seeking
+pub mod Counts
+pub mod Keeping
+pub mod Copying
+pub mod Laying
+pub mod Publishers
+pub mod Publishing
+pub mod Starting
+pub mod Telling
+pub mod Negatives
+pub mod Taking
+pub mod Degrees
+pub mod Readying
+pub mod Revisiting
+pub mod Offering
+pub mod Legs
+pub mod TellOnce
+pub mod Readied
