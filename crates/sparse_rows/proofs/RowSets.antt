@@ -215,6 +215,14 @@ below_later list n m x d rising lt less later there =
     let up : slice_index_or list n 0 < slice_index_or list m 0 = rising n m (omega (arith, later)) there in
     omega (arith, e, up, less)
 
+-- what is not above a place of a list that rises is below all later ones
+pub upto_later : (list : List ℕ) (n m x d : ℕ) → AreRisingPlaces list → n < length list → x < slice_index_or list n d + 1 → n + 1 ≤ m → m < length list
+    → x < slice_index_or list m 0
+upto_later list n m x d rising lt less later there =
+    let e : slice_index_or list n d ≡ slice_index_or list n 0 = get_or_default list n d 0 lt in
+    let up : slice_index_or list n 0 < slice_index_or list m 0 = rising n m (omega (arith, later)) there in
+    omega (arith, e, up, less)
+
 -- the place of an entry is below the size
 pub place_within : (size : ℕ) (rows : List (List Entry)) (i at : ℕ) → AreRows size rows → at < length (row_of rows i) → place_at (row_of rows i) at < size
 place_within size rows i at k lt = (k.within i (place_at (row_of rows i) at) (known_at (row_of rows i) at (k.rising i) lt)).0

@@ -416,6 +416,25 @@ impl Row {
         false
     }
 
+    /// Whether there is room at a place, where the first `from` entries have places below it, and how many have places up
+    /// to it. Where they are not many more, this takes a step for each.
+    pub fn room_from(&self, from: usize, j: u32) -> (usize, bool)
+        requires rising { IsRising self.now }
+        requires within { from ≤ length self.now }
+        requires below { (q : ℕ) → q < from → place_at self.now q < j }
+        ensures value { result.1 ≡ opens self.now j }
+        ensures within { result.0 ≤ length self.now }
+        ensures upto { (q : ℕ) → q < result.0 → place_at self.now q < j + 1 }
+    {
+        let end = self.len();
+        if self.is_at(from, j) {
+            prove!(from < end);
+            return (from + 1, self.entry(from).is_open());
+        }
+        let at = self.advance(from, j);
+        (self.after(at, j), self.has_room(at, j))
+    }
+
     /// Whether there is room at a place.
     pub fn is_open(&self, j: u32) -> bool
         requires { IsRising self.now }

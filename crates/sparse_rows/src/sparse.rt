@@ -1,8 +1,8 @@
 //! Rows that take memory only for the pairs with room.
-ghost use Rattle.std.specs.Prelude.{◌≡◌, ◌≢◌, ℕ, ◌+◌, ◌<◌, ◌≤◌, Bool, true, false, ◌&&◌, ◌||◌, ◌==◌, Option, Some, None, IfOk, OnOk, OnErr, length, slice_index_or, if◌then◌else◌};
+ghost use Rattle.std.specs.Prelude.{◌≡◌, ◌≢◌, ℕ, ◌+◌, ◌<◌, ◌≤◌, Bool, true, false, ◌&&◌, ◌||◌, not, ◌==◌, Option, Some, None, IfOk, OnOk, OnErr, length, slice_index_or, if◌then◌else◌};
 ghost use Rattle.dist_rows.specs.declared.cell.Cell.{Cell};
 ghost use Rattle.dist_rows.specs.Cells.{lowered, is_lower, are_neighbours, IsAbove, IsLight, offer_at, AreRising};
-ghost use Rattle.dist_rows.specs.Places.{AreWithin, AreRisingPlaces, is_roomless, count_roomless};
+ghost use Rattle.dist_rows.specs.Places.{AreWithin, AreRisingPlaces, count_roomless};
 ghost use Rattle.dist_rows.specs.Turns.{offered, roomed, row_roomed, all_roomed};
 ghost use Rattle.sparse_rows.specs.Entries.{cell_at, opens, knows, place_at, IsRising, IsSought};
 ghost use Rattle.sparse_rows.specs.SparseMaps.{row_of, AreRows, AreKnown, AreOpen};
@@ -197,18 +197,6 @@ impl SparseRows {
         Ok(())
     }
 
-    // Whether the pair of i with another place has no room: 1 or 0. `at` entries of the row have places below that place.
-    fn roomless(&self, i: u32, at: usize, j: u32) -> usize
-        requires within { i < self.now.size }
-        requires sought { IsSought (row_of self.now.rows.items i) j at }
-        ensures { result ≡ (if is_roomless (rooms_of self.now.rows.items) i j then 1 else 0) }
-    {
-        if i == j || self.row(i).has_room(at, j) {
-            return 0;
-        }
-        1
-    }
-
     // Lowers one cell to an offered sum, where the first `from` entries of the row have places below that of the offer.
     // Says how many have places up to that.
     fn offer(&mut self, i: u32, from: usize, offer: Offer, by: i128, k: u32) -> usize
@@ -278,6 +266,13 @@ impl SparseRows {
     }
 }
 
+// Whether the pair of i with another place has no room, by whether it has: 1 or 0.
+fn roomless(i: u32, j: u32, has: bool) -> usize
+    ensures { result ≡ (if not (i == j) && not has then 1 else 0) }
+{
+    usize::from(i != j && !has)
+}
+
 // How many entries of a row have places that are not above.
 fn start(row: &Row, after: Option<u32>) -> usize
     requires { IsRising row.now }
@@ -341,11 +336,13 @@ impl Rows for SparseRows {
     }
 
     fn count_roomless(&self, i: u32, list: &[u32]) -> usize {
-        let mut at = 0;
+        let row = self.row(i);
+        let mut from = 0;
         let mut count = 0;
         for n in 0..list.len() {
-            at = self.row(i).advance(at, list[n]);
-            count += self.roomless(i, at, list[n]);
+            let (next, has) = row.room_from(from, list[n]);
+            count += roomless(i, list[n], has);
+            from = next;
         }
         count
     }

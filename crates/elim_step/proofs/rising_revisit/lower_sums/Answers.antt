@@ -19,5 +19,6 @@ loop-n-preserved c =
       len = length-set now n c.lower_sum.new.cell ∙ was.len;
       done = set-done s now n None c.lower_sum.new.cell lt was.done is;
       left = λ m later l. set-left now n m None c.lower_sum.new.cell later ∙ was.left m (omega (arith, later)) l;
-      light = λ m l. set-all (λ (o : Option Cell). IfSome o (λ c. IsLight 100 c.weight)) now n m None c.lower_sum.new.cell lt c.lower_sum.ensures.light (was.light m l);
+      light = λ m l. set-all (λ (o : Option Cell). IfSome o (λ c. IsLight 100 c.weight)) now n m None c.lower_sum.new.cell lt
+          c.lower_sum.ensures.light (was.light m l);
     }
