@@ -1,5 +1,6 @@
 -- One item of a list written over: what holds of the items before, of those behind, and of all.
-use Rattle.std.proofs.Common.{◌≡◌, ◌≢◌, ℕ, ◌+◌, ◌<◌, ◌≤◌, List, true, false, set, sym, ◌∙◌, refl, length, arith, subst, get_or, get_or-set_other, get_or-set_same}
+use Rattle.std.proofs.Common.{◌≡◌, ◌≢◌, ℕ, ◌+◌, ◌<◌, ◌≤◌, List, true, false, set, sym, ◌∙◌, refl, length, arith, subst}
+use Rattle.std.proofs.Common.{get_or, get_or-set_other, get_or-set_same}
 use Rattle.std.specs.Prelude.{◌==◌}
 use Rattle.std.proofs.lemmas.Bool.Decides.{nat_tests}
 
