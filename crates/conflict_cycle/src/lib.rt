@@ -1,0 +1,9 @@
+//! What the agents' reduced parts and the shared graph say of the network: the negative cycle of its arcs that a stop shows.
+#![tactic(auto)]
+
+pub mod join;
+
+pub use join::join_cycle;
+
+#[cfg(test)]
+mod tests;
