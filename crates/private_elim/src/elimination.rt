@@ -1,11 +1,13 @@
 //! A local problem of which some private points are taken: the weights between its points through those.
-ghost use Rattle.std.specs.Prelude.{◌≡◌, ◌≢◌, ℕ, ◌+◌, ◌*◌, ◌<◌, ◌≤◌, ◌++◌, ◌∷◌, [], true, false, pos, neg_ℤ, ◌≤ℤ◌, map, None, IfOk, IfSome, OnErr, MatchOption, length, reverse};
+ghost use Rattle.std.specs.Prelude.{◌≡◌, ◌≢◌, ℕ, ◌+◌, ◌*◌, ◌<◌, ◌≤◌, ◌++◌, ◌∷◌, [], true, false, pos, neg_ℤ, ◌≤ℤ◌, map, None, IfOk, IfSome, OnOk, OnErr, MatchOption, not, ◌&&◌, ◌==◌, length, reverse};
 ghost use Rattle.stn_model.specs.Limits.{greatest_walk};
 ghost use Rattle.stn_walk.specs.Eliminations.{is_in, before_both};
 ghost use Rattle.stn_walk.specs.Joins.{joined_of};
 ghost use Rattle.elim_step.specs.Eliminated.{forward_of, point_at, weight_at};
 ghost use Rattle.private_elim.specs.Locals.{arcs_in, is_private_in};
+ghost use Rattle.dist_rows.specs.Places.{AreRisingPlaces};
 ghost use Rattle.private_elim.specs.Met.{AreMet};
+ghost use Rattle.private_elim.specs.SummaryRows.{joined_at};
 ghost use Rattle.private_elim.specs.Taken.{TakenView, StopsAt, HasTaken};
 
 use crate::local::Local;
@@ -116,6 +118,18 @@ impl<R: Rows> Elimination<R> {
         ensures { map (λ p. p.0) result.now ≡ self.now.order }
     {
         self.order.as_slice()
+    }
+
+    /// Lists the places that are left and joined with one, by rising number.
+    pub fn list_met(&self, place: u32, met: &mut Vec<u32>) -> Result<(), OutOfMemory>
+        requires { place < length self.now.local.points }
+        ensures rising { OnOk result (AreRisingPlaces met.new.items) }
+        ensures within { OnOk result ((p : ℕ) → is_in met.new.items p ≡ true → p < length self.now.local.points) }
+        ensures each { OnOk result ((p : ℕ) → p < length self.now.local.points → is_in met.new.items p ≡ (not (is_in (reverse self.now.order) (point_at self.now.local.points p)) && not (place == p) && joined_at self.now place p)) }
+        ensures facts { HasTaken self.now }
+    {
+        self.joins.neighbours(place, self.remain.as_slice(), met)?;
+        Ok(())
     }
 
     /// The weight from one place to another through the taken points that come before both; none from a place to itself.

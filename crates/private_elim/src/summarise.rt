@@ -37,17 +37,19 @@ fn entries_of(
     ensures taken { HasTaken elimination.now }
 {
     let mut entries = Vec::new(alloc);
+    let mut met = Vec::new(alloc);
     for i in 0..elimination.size() {
-        push_row(&mut entries, elimination, i)?;
+        push_row(&mut entries, elimination, i, &mut met)?;
     }
     Ok(entries)
 }
 
-// Adds the entries from a place.
+// Adds the entries from a place: those to places that are left and joined with it, of which it fills a list.
 fn push_row(
     entries: &mut Vec<SummaryEntry>,
     elimination: &SparseElimination,
     i: u32,
+    met: &mut Vec<u32>,
 ) -> Result<(), OutOfMemory>
     requires { i < length elimination.now.local.points }
     ensures { IfOk result (λ _. entries.new.items ≡ entries.old.items ++ row_of elimination.now i) }
@@ -55,7 +57,8 @@ fn push_row(
     if elimination.local().is_private(i) {
         return Ok(());
     }
-    for j in 0..elimination.size() {
+    elimination.list_met(i, met)?;
+    for &j in met.as_slice() {
         push_pair(entries, elimination, i, j)?;
     }
     Ok(())
