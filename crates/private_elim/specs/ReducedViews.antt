@@ -1,5 +1,5 @@
 -- What contracts see of a reduced local problem: ReducedView, first_there, weight_between, IsWeightBetween, IsReduced.
-use Rattle.std.specs.Prelude.{◌≡◌, ◌≢◌, ◌⊎◌, ℕ, ℤ, List, [], ◌∷◌, true, ◌&&◌, ◌==◌, Option, Some, None, map, reverse, if◌then◌else◌}
+use Rattle.std.specs.Prelude.{◌≡◌, ◌≢◌, ◌⊎◌, ℕ, ℤ, List, true, ◌==◌, Option, Some, None, map, reverse, if◌then◌else◌}
 use Rattle.std.specs.List.{AllByRecursion}
 use Rattle.stn_model.specs.Net.{Net}
 use Rattle.stn_model.specs.Valid.{IsNetwork}

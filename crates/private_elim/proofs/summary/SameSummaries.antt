@@ -5,7 +5,6 @@ use Rattle.std.specs.Prelude.{ℤ, ◌==◌, nat_lt, is_some}
 use Rattle.std.specs.List.{AllByRecursion}
 use Rattle.std.proofs.lemmas.Bool.{and_parts, false≢true}
 use Rattle.std.proofs.lemmas.Bool.Decides.{nat_tests}
-use Rattle.stn_model.specs.declared.ids.PointId.{PointId}
 use Rattle.stn_model.specs.Net.{Net}
 use Rattle.stn_model.specs.Valid.{IsNetwork}
 use Rattle.stn_model.specs.Kinds.{is_shared}
@@ -13,7 +12,7 @@ use Rattle.stn_model.specs.Conflicts.{own_arcs}
 use Rattle.stn_model.specs.Summaries.{Entry, IsSeenPair, IsEntryWeight, IsSummary}
 use Rattle.elim_step.specs.declared.summary.SummaryEntry.{SummaryEntry}
 use Rattle.elim_step.specs.Summaries.{entry_of, entry_in, is_less, is_valid, may_follow, may_all_follow, is_summary}
-use Rattle.private_elim.specs.Locals.{LocalView, points_of, arcs_in}
+use Rattle.private_elim.specs.Locals.{LocalView, points_of}
 use Rattle.private_elim.specs.Parts.{HasPart, OfPart}
 use Rattle.private_elim.specs.Laws.{HasSameArcs}
 use Rattle.private_elim.proofs.summary.EntryLookups.{found_holds, found_some, entry_unique}

@@ -1,6 +1,6 @@
 -- How many places remain and are joined with a place: the degree of its point, neighbour by neighbour; and where it stays.
 use Rattle.std.proofs.Common.{zero, suc, ◌≡◌, ◌≢◌, ℕ, ◌+◌, ◌<◌, ◌≤◌, List, [], ◌∷◌, ◌++◌, Bool, true, false, ◌&&◌, ◌||◌, not, Option, Some, None, ap}
-use Rattle.std.proofs.Common.{sym, ◌∙◌, refl, arith, subst, length, length-append, append-nil, get_or, inl, inr, ◌⊎◌}
+use Rattle.std.proofs.Common.{sym, ◌∙◌, refl, arith, subst, length, length-append, append-nil, get_or, inl, inr}
 use Rattle.stn_walk.proofs.Members.{is_in-at, is_in-push, is_in-rest}
 use Rattle.std.proofs.Math.Bool.{or-true}
 use Rattle.std.proofs.lemmas.Bool.{and_parts, not-true, or_cases, false≢true}

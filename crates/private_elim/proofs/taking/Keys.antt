@@ -5,7 +5,7 @@
 --   none_left                      where none comes first all private points are taken
 --   keys_after                     the keys once one point more is taken
 use Rattle.std.proofs.Common.{zero, suc, ◌≡◌, ◌≢◌, ℕ, ◌+◌, ◌<◌, ◌≤◌, List, [], ◌∷◌, ◌++◌, Bool, true, false, ◌&&◌, ◌||◌, not, Option, Some, None, ap, sym, ◌∙◌}
-use Rattle.std.proofs.Common.{refl, arith, subst, length, get_or, take, map, add-one, append-nil, length-append, inl, inr}
+use Rattle.std.proofs.Common.{refl, arith, subst, length, get_or, take, map, add-one, append-nil, inl, inr}
 use Rattle.std.specs.Prelude.{◌==◌, if◌then◌else◌, filter, is_some}
 use Rattle.std.specs.List.{AllByRecursion}
 use Rattle.std.proofs.lemmas.Bool.{and_parts, not-true, false≢true, cases_lt, cases_eq, cases_order}
@@ -19,11 +19,11 @@ use Rattle.elim_step.specs.Eliminated.{point_at}
 use Rattle.elim_step.specs.Picks.{candidate_at}
 use Rattle.elim_step.specs.Rankings.{IsFirst}
 use Rattle.elim_step.proofs.Firsts.{AreRanked, picks_first}
-use Rattle.private_elim.specs.Keyed.{left_at, HasKey, IsKeyed, AreKeyed}
+use Rattle.private_elim.specs.Keyed.{left_at, IsKeyed, AreKeyed}
 use Rattle.stn_model.specs.Kinds.{is_shared}
 use Rattle.private_elim.specs.Locals.{LocalView, IsLocal, points_of, is_private_in, is_point_of, private_at}
 use Rattle.private_elim.specs.Met.{AreMet}
-use Rattle.private_elim.specs.Picked.{IsNeighbour, IsDegree, IsPicked}
+use Rattle.private_elim.specs.Picked.{IsDegree, IsPicked}
 use Rattle.private_elim.proofs.locals.LocalFacts.{rises, place_of_point_at}
 use Rattle.private_elim.proofs.locals.Places.{place_found}
 use Rattle.private_elim.proofs.taking.Choices.{private_placed}

@@ -4,12 +4,12 @@
 --   left_many                      how many places are left
 --   whole_joined                   a place that is not partial is joined with all others that are left
 --   partial_joins, partial_room    it serves to join the partial ones, and to make room for these
-use Rattle.std.proofs.Common.{zero, suc, ◌≡◌, ◌≢◌, ℕ, ◌+◌, ◌-◌, ◌<◌, ◌≤◌, List, [], ◌∷◌, Bool, true, false, ◌&&◌, ◌||◌, not, Option, Some, None, ap, sym, ◌∙◌}
+use Rattle.std.proofs.Common.{◌≡◌, ◌≢◌, ℕ, ◌+◌, ◌-◌, ◌<◌, ◌≤◌, List, [], ◌∷◌, Bool, true, false, ◌&&◌, ◌||◌, not, Option, Some, None, ap, sym, ◌∙◌}
 use Rattle.std.proofs.Common.{refl, subst, arith, length, inl, inr}
 use Rattle.std.specs.Prelude.{ℤ, ◌==◌, reverse, is_some}
 use Rattle.std.specs.List.{AllByRecursion}
 use Rattle.std.proofs.Math.Bool.{or-true, and-false}
-use Rattle.std.proofs.lemmas.Bool.{and_parts, not-true, or_cases, false≢true, cases_eq}
+use Rattle.std.proofs.lemmas.Bool.{and_parts, not-true, or_cases, false≢true}
 use Rattle.std.proofs.lemmas.Bool.Decides.{nat_tests}
 use Rattle.stn_model.specs.declared.ids.Constraint.{Constraint}
 use Rattle.stn_model.specs.ArcWalks.{IsInnerLeast}

@@ -3,7 +3,6 @@ use Rattle.std.proofs.Common.{◌≡◌, ℕ, List, [], ◌∷◌, true, Option,
 use Rattle.std.specs.Prelude.{ℤ, ◌+ℤ◌, is_some, IfSome}
 use Rattle.std.specs.List.{AllByRecursion}
 use Rattle.stn_model.specs.declared.ids.Constraint.{Constraint}
-use Rattle.stn_model.specs.Arcs.{to_at, bound_at}
 use Rattle.stn_model.specs.Walks.{IsWalk, weight, heads}
 use Rattle.stn_walk.specs.Eliminations.{is_in}
 use Rattle.dist_rows.specs.declared.cell.Cell.{Cell}

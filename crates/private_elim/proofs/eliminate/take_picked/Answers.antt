@@ -3,7 +3,6 @@ use Rattle.std.specs.Prelude.{reverse, IfOk}
 use Rattle.std.proofs.lemmas.Result.{IfOk-weaker}
 use Rattle.elim_step.specs.Eliminated.{point_at}
 use Rattle.elim_step.specs.Ranked.{key_at}
-use Rattle.private_elim.specs.Keyed.{AreKeyed}
 use Rattle.private_elim.specs.Locals.{LocalView}
 use Rattle.private_elim.specs.Outcomes.{IsReducedFrom, IsConflictFrom}
 use Rattle.private_elim.proofs.taking.Choices.{few_taken, picked_reduced, picked_stop, picked_more}

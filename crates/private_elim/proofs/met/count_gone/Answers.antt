@@ -1,4 +1,4 @@
-use Rattle.std.proofs.Common.{ap, ◌∙◌, ◌+◌, rules, arith, get_or, set, length-set}
+use Rattle.std.proofs.Common.{ap, ◌∙◌, ◌+◌, rules, arith, get_or, length-set}
 use Rattle.std.specs.Prelude.{if◌then◌else◌}
 use Rattle.std.proofs.lemmas.List.{take_all}
 use Rattle.stn_walk.specs.Eliminations.{is_in}

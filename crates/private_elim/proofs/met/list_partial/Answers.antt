@@ -1,4 +1,4 @@
-use Rattle.std.proofs.Common.{◌≡◌, ℕ, ◌-◌, Bool, nat_lt, ◌&&◌, ◌∷◌, ◌++◌, [], ap, sym, ◌∙◌, rules, get_or, false}
+use Rattle.std.proofs.Common.{◌≡◌, ℕ, ◌-◌, Bool, nat_lt, ◌&&◌, ◌∷◌, ◌++◌, [], ap, ◌∙◌, rules, get_or, false}
 use Rattle.std.proofs.lemmas.Bool.{and_parts}
 use Rattle.std.specs.Prelude.{if◌then◌else◌}
 use Rattle.stn_walk.specs.Eliminations.{is_in}

@@ -1,4 +1,4 @@
-use Rattle.std.proofs.Common.{◌≡◌, ◌+◌, ◌-◌, ◌&&◌, not, ap, sym, ◌∙◌, subst, map, arith, length, get_or}
+use Rattle.std.proofs.Common.{◌≡◌, ◌-◌, ◌&&◌, not, ap, sym, ◌∙◌, subst, map, arith, length}
 use Rattle.std.proofs.lemmas.List.{get_or_default}
 use Rattle.std.specs.Prelude.{reverse}
 use Rattle.stn_model.specs.declared.ids.PointId.{PointId}

@@ -1,4 +1,4 @@
-use Rattle.std.proofs.Common.{◌≡◌, true, map, sym, ap, ◌∙◌}
+use Rattle.std.proofs.Common.{map, sym, ap, ◌∙◌}
 use Rattle.std.specs.Prelude.{reverse, length}
 use Rattle.elim_step.specs.Eliminated.{point_at, forward_of}
 use Rattle.private_elim.specs.Locals.{arcs_in}

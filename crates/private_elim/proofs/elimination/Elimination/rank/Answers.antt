@@ -1,7 +1,5 @@
-use Rattle.std.proofs.Common.{◌≡◌, true, sym, ◌∙◌, rules, arith, take, get_or}
+use Rattle.std.proofs.Common.{◌∙◌, rules, arith}
 use Rattle.std.specs.Prelude.{reverse}
-use Rattle.std.proofs.lemmas.List.{take_all}
-use Rattle.stn_walk.specs.Eliminations.{is_in}
 use Rattle.stn_walk.proofs.Members.{is_in-at}
 use Rattle.elim_step.specs.Ranked.{key_at}
 use Rattle.private_elim.specs.Keyed.{IsKeyed}

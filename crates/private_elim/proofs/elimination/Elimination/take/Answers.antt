@@ -1,4 +1,4 @@
-use Rattle.std.proofs.Common.{◌≡◌, ◌≢◌, ℕ, ◌+◌, ◌-◌, ◌<◌, List, [], ◌∷◌, ◌++◌, true, false, ◌&&◌, ◌||◌, not, None, ap, sym, ◌∙◌, refl, arith, map, length, set}
+use Rattle.std.proofs.Common.{◌≡◌, ◌≢◌, ℕ, ◌+◌, ◌-◌, ◌<◌, List, [], ◌∷◌, ◌++◌, true, ◌&&◌, ◌||◌, not, None, ap, sym, ◌∙◌, refl, arith, map, length}
 use Rattle.std.proofs.Common.{get_or, take, drop, append-nil}
 use Rattle.std.specs.Prelude.{reverse, is_some, ◌==◌, if◌then◌else◌}
 use Rattle.std.proofs.lemmas.Bool.{and_parts}
@@ -12,8 +12,7 @@ use Rattle.elim_step.specs.Eliminated.{point_at}
 use Rattle.elim_step.specs.JoinedPlaces.{is_joined}
 use Rattle.elim_step.proofs.Amongs.{step_among}
 use Rattle.elim_step.proofs.Sound.{all_light}
-use Rattle.elim_step.proofs.JoinFacts.{joined-neighbours, joined-within}
-use Rattle.elim_step.proofs.Parts.{within_in}
+use Rattle.elim_step.proofs.JoinFacts.{joined-neighbours}
 use Rattle.elim_step.proofs.Roomings.{row_kept}
 use Rattle.elim_step.proofs.Whole.{none-from}
 use Rattle.stn_walk.proofs.Members.{is_in-at}

@@ -1,4 +1,4 @@
-use Rattle.std.proofs.Common.{◌≡◌, sym, ◌∙◌}
+use Rattle.std.proofs.Common.{sym, ◌∙◌}
 use Rattle.private_elim.proofs.locals.Places.{place_found}
 use Rattle.private_elim.proofs.local.Local.is_private_point.Goals as goal
 
