@@ -62,7 +62,8 @@ module _ (P : ℕ → Option ℕ → Type 0) (xs : List ℕ) (n : ℕ) (lt : n <
             let is : after p ≡ key = changed p ∙ (let e : (p == get_or xs n 0) ≡ true = grind (arith, nat_tests) in ap (λ b. if b then key else keys p) e) in
             subst (P p) (sym is) (subst (λ q. P q key) (sym same) given)
         | inr apart ↦
-            let is : after p ≡ keys p = changed p ∙ (let e : (p == get_or xs n 0) ≡ false = grind (arith, nat_tests) in ap (λ b. if b then key else keys p) e) in
+            let is : after p ≡ keys p =
+            changed p ∙ (let e : (p == get_or xs n 0) ≡ false = grind (arith, nat_tests) in ap (λ b. if b then key else keys p) e) in
             subst (P p) (sym is) (is_in-cases {P = P p (keys p)} p xs n lt here (was p) (λ e. absurd (apart e)))
       ]
 
