@@ -25,3 +25,4 @@ pub mod Offering
 pub mod Legs
 pub mod TellOnce
 pub mod Readied
+pub mod Onward

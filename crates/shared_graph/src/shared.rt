@@ -5,6 +5,7 @@ ghost use Rattle.stn_model.specs.Schedules.{IsConsistent, IsLeastBound};
 ghost use Rattle.stn_model.specs.declared.ids.AgentId.{AgentId};
 ghost use Rattle.elim_step.specs.Eliminated.{weight_at};
 ghost use Rattle.shared_graph.specs.Graphs.{IsOrigin};
+ghost use Rattle.shared_graph.specs.Histories.{IsJournal};
 ghost use Rattle.shared_graph.specs.Interfaces.{IsFitting};
 ghost use Rattle.shared_graph.specs.Journals.{OfStanding};
 ghost use Rattle.shared_graph.specs.Publications.{entries_in};
@@ -94,9 +95,10 @@ impl Shared {
         self.graph.is_joined(i, j)
     }
 
-    /// All entries, in their order.
+    /// All entries, in their order: they replay to the state, with summaries that fit.
     pub fn journal(&self) -> &[Entry]
-        ensures { result.now ≡ self.now.journal }
+        ensures journal { result.now ≡ self.now.journal }
+        ensures replays { IsJournal self.now.face self.now.state self.now.journal }
     {
         self.journal.as_slice()
     }

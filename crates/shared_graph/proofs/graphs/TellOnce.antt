@@ -1,5 +1,5 @@
--- Over a journal each published agent is one of the interface, and told one summary: told_once.
-use Rattle.std.proofs.Common.{zero, suc, ◌≡◌, ◌<◌, List, [], ◌∷◌, true, false, ◌||◌, ap, sym, ◌∙◌, refl, arith}
+-- Over a journal each published agent is one of the interface, and told one summary: told_once, listed_entries, published_listed.
+use Rattle.std.proofs.Common.{zero, suc, ◌≡◌, ℕ, ◌<◌, Bool, List, [], ◌∷◌, true, false, ◌||◌, ap, sym, ◌∙◌, refl, arith}
 use Rattle.std.specs.Prelude.{Contains, ◌==◌, if◌then◌else◌}
 use Rattle.std.proofs.Math.Bool.{or-true}
 use Rattle.std.proofs.lemmas.Bool.Decides.{nat_tests}
@@ -9,7 +9,7 @@ use Rattle.shared_graph.specs.Interfaces.{InterfaceView, Summary}
 use Rattle.shared_graph.specs.Legs.{AreTold}
 use Rattle.shared_graph.specs.Publications.{entries_in}
 use Rattle.shared_graph.specs.Replays.{summary_of}
-use Rattle.shared_graph.specs.States.{State, Published, published_in, start}
+use Rattle.shared_graph.specs.States.{State, Published, published_in, is_published, start}
 use Rattle.shared_graph.proofs.states.Listed.{AreListed, listed_replay, start_listed}
 
 -- an agent that is there is found
@@ -46,3 +46,23 @@ told_once face s journal h p there =
     let listed = listed_replay face h.summaries journal start s (start_listed face h.summaries) h.replays in
     let one = listed p there in
     (one.0, published_there s.published p there, one.1 ∙ sym (entries_listed face h.summaries s.published listed p there))
+
+-- what an agent that has published told is the listed summary
+pub listed_entries : (face : InterfaceView) (summaries : List Summary) (ps : List Published) → AreListed face summaries ps → (a : ℕ)
+    → published_in ps a ≡ true → entries_in ps a ≡ summary_of summaries a
+listed_entries face summaries [] listed a there = absurd (cc)
+listed_entries face summaries (q ∷ ps) listed a there =
+    elim (a == q.agent) as (λ b. (a == q.agent) ≡ b → (published_in ps a || b) ≡ true
+    → (if b then q.entries else entries_in ps a) ≡ summary_of summaries a) [
+      | true ↦ λ t h. (let e : a ≡ q.agent = grind (arith, nat_tests) in (listed q (0, omega arith, refl)).1 ∙ ap (summary_of summaries) (sym e))
+      | false ↦ λ t h.
+          listed_entries face summaries ps (λ r here. listed r (suc here.0, omega (arith, here.1), here.2)) a (no_other (published_in ps a) h)
+    ] refl there where
+      no_other : (b : Bool) → (b || false) ≡ true → b ≡ true
+      no_other true h = refl
+      no_other false h = absurd (cc)
+
+pub published_listed : (face : InterfaceView) (s : State) (journal : List Entry) (j : IsJournal face s journal) (a : ℕ) → is_published s a ≡ true
+    → entries_in s.published a ≡ summary_of j.summaries a
+published_listed face s journal j a there =
+    listed_entries face j.summaries s.published (listed_replay face j.summaries journal start s (start_listed face j.summaries) j.replays) a there

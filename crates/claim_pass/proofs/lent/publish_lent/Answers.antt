@@ -19,6 +19,6 @@ pub returns-clause-answer : goal.returns-clause-answer
 returns-clause-answer c = (
   sym c.in_default.ensures,
   subst (λ (f : InterfaceView). IsFitting f c.args.agent.0 c.args.summary.now) c.interface.ensures.face (c.fits.ensures.0 c.if-not-fits.false),
-  ap length c.journal.ensures,
+  ap length c.journal.ensures.journal,
   (c.publish.ensures.face, c.in_ok-publish.ensures.state, c.in_ok-publish.ensures.journal),
 )

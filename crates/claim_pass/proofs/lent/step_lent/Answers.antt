@@ -29,5 +29,5 @@ returns c =
             (least_by c.args.agent v.face v.state c.in-Some.point c.in-Some.ensures.some),
         c.revisit_by.ensures,
       ),
-      ap length c.journal.ensures,
+      ap length c.journal.ensures.journal,
     )
