@@ -1,0 +1,4 @@
+pub mod Sections
+pub mod Belongs
+pub mod Lines
+pub mod Views
