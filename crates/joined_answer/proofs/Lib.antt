@@ -1,0 +1,4 @@
+pub mod Orders
+pub mod Listings
+pub mod Sections
+pub mod Solves

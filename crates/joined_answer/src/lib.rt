@@ -1,0 +1,12 @@
+//! The answer that all agents' parts and the shared graph give together.
+#![tactic(auto)]
+
+pub mod joined;
+mod parts;
+pub mod solving;
+
+pub use joined::Joined;
+pub use solving::{Answer, solve};
+
+#[cfg(test)]
+mod tests;
