@@ -10,7 +10,7 @@ use Rattle.stn_model.proofs.WalkLemmas.{no_schedule}
 use Rattle.least_repair.proofs.OtherBound.{with_bound-twice}
 use Rattle.plain_solve.specs.Answers.{IsEarliest}
 use Rattle.mastn.specs.declared.answer.Outcome.{Outcome}
-use Rattle.mastn.specs.declared.answer.Outcome.TheVariants.{Done, Inconsistent, NetBad, NotProved, TooLarge}
+use Rattle.mastn.specs.declared.answer.Outcome.TheVariants.{Done, Inconsistent, NetBad, ScriptBad, NotProved, TooLarge}
 use Rattle.mastn.specs.Checks.{Checks}
 use Rattle.mastn.specs.Repairs.{AnswersArc, AnswersWalk, Adds, Repairs}
 
@@ -59,5 +59,6 @@ Repairs-consistent net times earliest Done text h = h
 Repairs-consistent net times earliest Inconsistent text h =
     absurd (no_schedule (arcs_of net) (point_count net) h.walk h.cycle (times, earliest.satisfies))
 Repairs-consistent net times earliest NetBad text h = absurd h
+Repairs-consistent net times earliest ScriptBad text h = absurd h
 Repairs-consistent net times earliest NotProved text h = absurd h
 Repairs-consistent net times earliest TooLarge text h = absurd h

@@ -1,7 +1,12 @@
 mod Answering
 mod Digits
+mod JoinedPoints
 mod Readings
+mod Reported
+mod Rising
 mod Scripts
+mod Solving
 mod Valid
+mod ValidSolves
 mod Verified
 mod WordLemmas

@@ -1,10 +1,8 @@
 -- The laws of valid inputs.
-use Rattle.std.proofs.Common.{◌≡◌, ℕ, ◌+◌, ◌≤◌, ◌⊎◌, inl, inr, ⊎_elim, Bool, true, false, List, length, drop, Option, None, Some, Result, Ok, Err, refl, sym, ap, subst, ◌∙◌, arith, nat_lt, MatchBool}
+use Rattle.std.proofs.Common.{◌≡◌, ℕ, ◌+◌, ◌≤◌, ◌⊎◌, inl, inr, ⊎_elim, Bool, true, false, List, drop, Result, Ok, Err, refl, ap, subst, ◌∙◌}
+use Rattle.std.proofs.Common.{arith, nat_lt, MatchBool}
 use Rattle.std.proofs.lemmas.Bool.Decides.{nat_tests}
 use Rattle.json_net.specs.Texts.{value_of, said}
-use Rattle.stn_io.specs.Bytes.{Loses}
-use Rattle.stn_io.specs.Causes.{Rose}
-use Rattle.stn_io.specs.States.{SourceState, SinkState}
 use Rattle.stn_io.specs.declared.whole.ReadRefusal.{ReadRefusal}
 use Rattle.stn_io.specs.declared.whole.ReadRefusal.TheVariants as refusal
 use Rattle.stn_model.specs.Net.{Net}
@@ -13,7 +11,7 @@ use Rattle.cert_check.specs.declared.verdict.Verdict.{Verdict}
 use Rattle.cert_check.specs.declared.verdict.Verdict.TheVariants as verdict
 use Rattle.cert_check.specs.Certificates.{verdict_of}
 use Rattle.mastn.specs.declared.answer.Outcome.{Outcome}
-use Rattle.mastn.specs.declared.answer.Outcome.TheVariants.{Done, Inconsistent, NetBad, NotProved, TooLarge}
+use Rattle.mastn.specs.declared.answer.Outcome.TheVariants.{Done, Inconsistent, NetBad, ScriptBad, NotProved, TooLarge}
 use Rattle.mastn.specs.declared.question.Question.{Question}
 use Rattle.mastn.specs.declared.question.Question.TheVariants.{Check, Certify, Verify, Upgrade, Repair}
 use Rattle.mastn.specs.declared.json.JsonQuestion.{JsonQuestion}
@@ -27,15 +25,17 @@ use Rattle.mastn.specs.Json.{Prints, OfJson, SaysValue, says_of_json}
 use Rattle.mastn.specs.Laws.{IsShown, Suits, IsReported, ValidInputsAreReported, JsonNetworksAreReported, GeneratedIsReported}
 use Rattle.mastn.specs.Repairs.{Repairs}
 use Rattle.mastn.specs.Questions.{OfNetwork, SaysRead, says_of}
-use Rattle.mastn.specs.Runs.{Means, MeansAlone, Runs}
+use Rattle.mastn.specs.Runs.{MeansAlone}
 use Rattle.mastn.specs.Statuses.{status_of, meant_status}
 use Rattle.mastn.specs.Upgrades.{Upgrades}
+use Rattle.mastn.proofs.Reported.{run_reports}
 
 -- each job gives its report of a network that suits it
 checked : (net : Net) (o : Outcome) (text : List ℕ) → Checks net o text → IsReported (status_of o)
 checked net Done text h = inl refl
 checked net Inconsistent text h = inr (inl refl)
 checked net NetBad text h = absurd h
+checked net ScriptBad text h = absurd h
 checked net NotProved text h = absurd h
 checked net TooLarge text h = absurd h
 
@@ -43,6 +43,7 @@ upgraded : (net : Net) (o : Outcome) (text : List ℕ) → Upgrades net o text �
 upgraded net Done text h = inl refl
 upgraded net Inconsistent text h = absurd h
 upgraded net NetBad text h = absurd h
+upgraded net ScriptBad text h = absurd h
 upgraded net NotProved text h = absurd h
 upgraded net TooLarge text h = absurd h
 
@@ -50,6 +51,7 @@ repaired : (net : Net) (o : Outcome) (text : List ℕ) → Repairs net o text �
 repaired net Done text h = inl refl
 repaired net Inconsistent text h = inr (inl refl)
 repaired net NetBad text h = absurd h
+repaired net ScriptBad text h = absurd h
 repaired net NotProved text h = absurd h
 repaired net TooLarge text h = absurd h
 
@@ -57,6 +59,7 @@ has_certificate : (net : Net) (o : Outcome) (text : List ℕ) → SaysCertificat
 has_certificate net Done text h = inl refl
 has_certificate net Inconsistent text h = inr (inl refl)
 has_certificate net NetBad text h = absurd h
+has_certificate net ScriptBad text h = absurd h
 has_certificate net NotProved text h = absurd h
 has_certificate net TooLarge text h = absurd h
 
@@ -87,30 +90,6 @@ reported Verify bytes read o text s h =
 reported Upgrade bytes read o text s h = upgraded read.net o text h
 reported Repair bytes read o text s h = repaired read.net o text h
 
--- no source that tells fewer bytes loses more
-not_long : (bytes : List ℕ) (after : Option (List ℕ)) → length bytes ≤ 16777216 → Loses (Some bytes) after 16777217 → ⊥
-not_long bytes None few gone = gone
-not_long bytes (Some ys) few gone = absurd (omega (arith, gone.0))
-
-same_status : (answer meant : Status) → answer ≡ meant → IsReported meant → IsReported answer
-same_status answer meant e h = rw e h
-
-module _ (says : List ℕ → Outcome → List ℕ → Type 0) (source left : SourceState) (bytes : List ℕ) (told : source.left ≡ Some bytes)
-    (few : length bytes ≤ 16777216) (quiet : Rose source.faults left.faults → ⊥)
-    (reports : (o : Outcome) (text : List ℕ) → says bytes o text → IsReported (status_of o)) where
-  meant_reports : (m : Result Outcome ReadRefusal) (text : List ℕ) → Means says source left m text → IsReported (meant_status m)
-  meant_reports (Ok o) text m =
-      let same : m.0 ≡ bytes = rw told at m.1.told in
-      reports o text (subst (λ bs. says bs o text) same m.2)
-  meant_reports (Err refusal.ReadFault) text m = absurd (quiet m.0.1)
-  meant_reports (Err refusal.TooLong) text m = absurd (not_long bytes left.left few (rw told at m.0.0))
-  meant_reports (Err refusal.OutOfMemory) text m = inr (inr refl)
-
-  run_reports : (sink taken : SinkState) (answer : Status) → Runs says source left sink taken answer → (Rose sink.faults taken.faults → ⊥) → IsReported answer
-  run_reports sink taken answer runs written =
-      let report = meant_reports runs.meant runs.text runs.means in
-      ⊎_elim (λ whole. same_status answer (meant_status runs.meant) whole.0 report) (λ failed. absurd (written failed.1.rose)) runs.writes
-
 pub valid_inputs : ValidInputsAreReported
 valid_inputs q source left sink taken answer runs v =
     run_reports (says_of q) source left v.bytes v.told v.few v.reads
@@ -121,6 +100,7 @@ printed : (net : Net) (o : Outcome) (text : List ℕ) → Prints net o text → 
 printed net Done text h = inl refl
 printed net Inconsistent text h = absurd h
 printed net NetBad text h = absurd h
+printed net ScriptBad text h = absurd h
 printed net NotProved text h = absurd h
 printed net TooLarge text h = absurd h
 
@@ -138,6 +118,7 @@ generates : (number size : ℕ) (o : Outcome) (text : List ℕ) → Generates nu
 generates number size Done text h = refl
 generates number size Inconsistent text h = absurd h
 generates number size NetBad text h = absurd h
+generates number size ScriptBad text h = absurd h
 generates number size NotProved text h = absurd h
 generates number size TooLarge text h = absurd h
 

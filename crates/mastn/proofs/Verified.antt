@@ -5,7 +5,7 @@ use Rattle.std.proofs.lemmas.List.{length-take-le}
 use Rattle.stn_model.specs.Net.{Net}
 use Rattle.net_text.proofs.ReadPrefix.{prefix_is_read}
 use Rattle.mastn.specs.declared.answer.Outcome.{Outcome}
-use Rattle.mastn.specs.declared.answer.Outcome.TheVariants.{Done, Inconsistent, NetBad, NotProved, TooLarge}
+use Rattle.mastn.specs.declared.answer.Outcome.TheVariants.{Done, Inconsistent, NetBad, ScriptBad, NotProved, TooLarge}
 use Rattle.mastn.specs.declared.question.Question.TheVariants.{Certify, Verify}
 use Rattle.mastn.specs.Certificates.{is_too_large, Certifies, Verifies, SaysTooLarge, SaysCertificate, SaysVerdict, SaysChecked}
 use Rattle.mastn.specs.Laws.{CertifiedIsVerified}
@@ -16,6 +16,7 @@ module _ (net : Net) (first : ℕ) (certificate text : List ℕ) (verified : Out
   accepted Done c v = (subst (λ w. SaysVerdict w verified text) (c.accepted first) v.says).0
   accepted Inconsistent c v = (subst (λ w. SaysVerdict w verified text) (c.accepted first) v.says).0
   accepted NetBad c v = absurd c
+  accepted ScriptBad c v = absurd c
   accepted NotProved c v = absurd c
   accepted TooLarge c v = absurd c
 

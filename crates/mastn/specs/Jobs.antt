@@ -1,9 +1,12 @@
 -- Jobs by the words of the command line: job_of, and what its numbers are.
-use Rattle.std.specs.Prelude.{ℕ, ◌≤◌, ℤ, Bool, pos, List, [], ◌∷◌, ◌==◌, ◌&&◌, ◌||◌, length, nat_eq, nat_lt, int_le, slice_index, unsigned_abs, Option, Some, None, codes, if◌then◌else◌}
+use Rattle.std.specs.Prelude.{ℕ, ◌≤◌, ℤ, Bool, pos, List, [], ◌∷◌, ◌==◌, ◌&&◌, ◌||◌, length, nat_eq, nat_lt, int_le, slice_index}
+use Rattle.std.specs.Prelude.{unsigned_abs, Option, Some, None, codes, if◌then◌else◌}
 use Rattle.std.specs.Str.{bytes_eq}
 use Rattle.net_text.specs.Numbers.{number_of}
 use Rattle.mastn.specs.declared.words.Job.{Job}
-use Rattle.mastn.specs.declared.words.Job.TheVariants.{Check, Certify, Verify, Upgrade, Repair, CheckJson, Json, Gen}
+use Rattle.mastn.specs.declared.words.Job.TheVariants.{Check, Certify, Verify, Upgrade, Repair, CheckJson, Json, Solve, Gen}
+use Rattle.mastn.specs.declared.words.Pick.{Pick}
+use Rattle.mastn.specs.declared.words.Pick.TheVariants.{Degree, Number}
 use Rattle.mastn.specs.Limits.{greatest_number, greatest_size}
 
 -- the number of a word of 1 to 10 digits
@@ -22,6 +25,17 @@ gen_of None size = None
 gen_of (Some number) None = None
 gen_of (Some number) (Some size) = gen_within number size
 
+-- a pick by its name
+abbrev pub pick_of : List ℕ → Option Pick
+pick_of name =
+    if bytes_eq name (codes "degree") then Some Degree
+    else (if bytes_eq name (codes "number") then Some Number
+    else None)
+
+abbrev pub solve_of : Option Pick → Option Job
+solve_of None = None
+solve_of (Some pick) = Some (Solve pick)
+
 -- the numbers of a job are in range
 abbrev pub IsWithinLimits : Job → Type 0
 IsWithinLimits Check = Unit {0}
@@ -31,6 +45,7 @@ IsWithinLimits Upgrade = Unit {0}
 IsWithinLimits Repair = Unit {0}
 IsWithinLimits CheckJson = Unit {0}
 IsWithinLimits Json = Unit {0}
+IsWithinLimits (Solve pick) = Unit {0}
 IsWithinLimits (Gen number size) = (number ≤ greatest_number) × (1 ≤ size) × (size ≤ greatest_size)
 
 -- a lone word
@@ -42,20 +57,25 @@ lone_job word =
     else (if bytes_eq word (codes "upgrade") then Some Upgrade
     else (if bytes_eq word (codes "repair") then Some Repair
     else (if bytes_eq word (codes "json") then Some Json
-    else None)))))
+    else (if bytes_eq word (codes "solve") then Some (Solve Degree)
+    else None))))))
 
 -- a word with the form of its input
 abbrev pub formed_job : List ℕ → List ℕ → Option Job
 formed_job word form = if bytes_eq word (codes "check") && bytes_eq form (codes "--json") then Some CheckJson else None
 
--- a word with a number and a size
-abbrev pub sized_job : List ℕ → List ℕ → List ℕ → Option Job
-sized_job word number size = if bytes_eq word (codes "gen") then gen_of (digits_of number) (digits_of size) else None
+-- a word with two more: `gen` with a number and a size, `solve` with its option
+abbrev pub valued_job : List ℕ → List ℕ → List ℕ → Option Job
+valued_job word first second =
+    if bytes_eq word (codes "gen") then gen_of (digits_of first) (digits_of second)
+    else (if bytes_eq word (codes "solve") && bytes_eq first (codes "--pick") then solve_of (pick_of second)
+    else None)
 
--- the table of words: none, or `check`; `certify`; `verify`; `upgrade`; `repair`; `check --json`; `json`; `gen NUMBER SIZE`
+-- the table of words: none, or `check`; `certify`; `verify`; `upgrade`; `repair`; `check --json`; `json`; `solve`, by degree; `solve --pick degree`;
+-- `solve --pick number`; `gen NUMBER SIZE`
 abbrev pub job_of : List (List ℕ) → Option Job
 job_of [] = Some Check
 job_of (word ∷ []) = lone_job word
 job_of (word ∷ form ∷ []) = formed_job word form
-job_of (word ∷ number ∷ size ∷ []) = sized_job word number size
-job_of (word ∷ number ∷ size ∷ next ∷ more) = None
+job_of (word ∷ first ∷ second ∷ []) = valued_job word first second
+job_of (word ∷ first ∷ second ∷ next ∷ more) = None

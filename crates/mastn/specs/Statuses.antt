@@ -26,6 +26,7 @@ abbrev pub status_of : Outcome → Status
 status_of outcome.Done = Done
 status_of outcome.Inconsistent = Inconsistent
 status_of outcome.NetBad = NetBad
+status_of outcome.ScriptBad = ScriptBad
 status_of outcome.NotProved = NotProved
 status_of outcome.TooLarge = TooLargeToCertify
 

@@ -17,6 +17,8 @@ pub enum Outcome {
     Inconsistent,
     /// The input does not begin with a network.
     NetBad,
+    /// What follows the network is no script, or one with a command that is not built.
+    ScriptBad,
     /// A line of the certificate is false.
     NotProved,
     /// The network has more points than a certificate may have.
@@ -32,6 +34,7 @@ impl Outcome {
             Outcome::Done => Status::Done,
             Outcome::Inconsistent => Status::Inconsistent,
             Outcome::NetBad => Status::NetBad,
+            Outcome::ScriptBad => Status::ScriptBad,
             Outcome::NotProved => Status::NotProved,
             Outcome::TooLarge => Status::TooLargeToCertify,
         }

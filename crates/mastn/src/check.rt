@@ -3,7 +3,7 @@ ghost use Rattle.std.specs.Prelude.{◌≡◌, ◌++◌, IfOk, OnOk};
 ghost use Rattle.stn_model.specs.Net.{arcs_of};
 ghost use Rattle.stn_model.specs.Walks as walks;
 ghost use Rattle.plain_solve.specs.Answers.{IsEarliest};
-ghost use Rattle.mastn.specs.Checks.{Checks};
+ghost use Rattle.mastn.specs.Checks.{Checks, ReportsInconsistent};
 ghost use Rattle.mastn.specs.Reports.{summed_cycle};
 
 use crate::answer::{Answer, Outcome};
@@ -43,13 +43,23 @@ fn inconsistent(alloc: Global, net: &Network, cycle: &Walk) -> Result<Answer, Ou
     requires normal { walks.IsNormal cycle.now }
     ensures { IfOk result (λ a. Checks net.now a.outcome a.text.items) }
 {
-    let mut text = Vec::new(alloc);
-    verdict(false, &mut text)?;
-    add_cycle(net, cycle, &mut text)?;
+    let text = conflict_text(alloc, net, cycle)?;
     Ok(Answer {
         outcome: Outcome::Inconsistent,
         text,
     })
+}
+
+/// The report of an inconsistent network, by one of its negative cycles.
+pub fn conflict_text(alloc: Global, net: &Network, cycle: &Walk) -> Result<Vec<u8>, OutOfMemory>
+    requires cycle { walks.IsNegativeCycle (arcs_of net.now) cycle.now }
+    requires normal { walks.IsNormal cycle.now }
+    ensures { IfOk result (λ text. ReportsInconsistent net.now text.items) }
+{
+    let mut text = Vec::new(alloc);
+    verdict(false, &mut text)?;
+    add_cycle(net, cycle, &mut text)?;
+    Ok(text)
 }
 
 /// Appends a negative cycle with its sum.

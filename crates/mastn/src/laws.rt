@@ -1,5 +1,5 @@
 //! Laws of runs, which no code keeps.
-ghost use Rattle.mastn.specs.Laws.{ValidInputsAreReported, JsonNetworksAreReported, GeneratedIsReported, CertifiedIsVerified};
+ghost use Rattle.mastn.specs.Laws.{ValidInputsAreReported, JsonNetworksAreReported, GeneratedIsReported, SolvesAreReported, CertifiedIsVerified, NumbersRise};
 
 /// Each job that reads a network text reports each valid input, where no read and no write fails, unless memory runs out.
 ///
@@ -16,6 +16,12 @@ pub fn json_networks_are_reported()
     ensures { JsonNetworksAreReported }
 {}
 
+/// `solve` reports each network that has the script `done` behind it, where no read and no write fails, unless memory runs out; if it returns.
+#[tactic(auto, using(crate::proofs::ValidSolves::valid_solves))]
+pub fn solves_are_reported()
+    ensures { SolvesAreReported }
+{}
+
 /// `gen` writes its network, where no write fails, unless memory runs out.
 #[tactic(auto, using(crate::proofs::Valid::generated))]
 pub fn generated_is_reported()
@@ -26,4 +32,10 @@ pub fn generated_is_reported()
 #[tactic(auto, using(crate::proofs::Verified::certified_is_verified))]
 pub fn certified_is_verified()
     ensures { CertifiedIsVerified }
+{}
+
+/// In each order that `solve --pick number` writes, the private points of an agent come by rising number.
+#[tactic(auto, using(crate::proofs::Rising::numbers_rise))]
+pub fn numbers_rise()
+    ensures { NumbersRise }
 {}

@@ -12,6 +12,8 @@ mod question;
 mod repair;
 mod request;
 mod run;
+mod script;
+mod solve;
 mod status;
 #[cfg(test)]
 mod tests;
@@ -19,6 +21,7 @@ mod upgrade;
 mod words;
 
 use crate::run::{refuse, refuse_words, run};
+use agent_worker::OpenGate;
 use std::alloc::Global;
 use std::env;
 use std::env::Env;
@@ -57,7 +60,14 @@ fn main(rt: HostRuntime) -> ExitCode {
     let mut source = StdSource::new(rt.stdin());
     let mut sink = StdSink::new(rt.stdout());
     let status = match words_of(&rt) {
-        Ok(words) => run(rt.alloc(), words.as_slice(), &mut source, &mut sink),
+        Ok(words) => run(
+            &rt,
+            rt.alloc(),
+            words.as_slice(),
+            &mut source,
+            &mut sink,
+            &OpenGate,
+        ),
         Err(NoWords::NotUtf8) => refuse_words(&mut sink),
         Err(NoWords::OutOfMemory) => refuse(&mut sink, ReadRefusal::OutOfMemory),
     };

@@ -7,12 +7,14 @@ ghost use Rattle.mastn.specs.Json.{says_of_json};
 ghost use Rattle.mastn.specs.Questions.{says_of};
 ghost use Rattle.mastn.specs.Requests.{asks_of};
 ghost use Rattle.mastn.specs.Reports.{refusal_line};
+ghost use Rattle.mastn.specs.Solves.{solves};
 ghost use Rattle.mastn.specs.Runs.{ReadsWhole, Refuses, Writes, Runs, RunsAlone, refusal_word};
 ghost use Rattle.mastn.specs.Statuses.{refusal_status};
 ghost use Rattle.mastn.specs.declared.json.JsonQuestion.TheVariants as json;
 ghost use Rattle.mastn.specs.declared.question.Question.TheVariants as question;
 ghost use Rattle.mastn.specs.declared.status.Status.TheVariants as status;
 ghost use Rattle.mastn.specs.declared.words.Job.TheVariants as job;
+ghost use Rattle.mastn.specs.declared.words.Pick.{Pick};
 
 use crate::answer::Answer;
 use crate::generate::generated_text;
@@ -20,20 +22,29 @@ use crate::json::JsonQuestion;
 use crate::limits::LONGEST_INPUT;
 use crate::question::Question;
 use crate::request::Request;
+use crate::solve::solve_input;
 use crate::status::Status;
-use crate::words::{Job, read_words};
+use crate::words::{Job, Pick, read_words};
+use agent_worker::Gate;
 use std::alloc::Global;
+use std::sync::Wait;
+use std::thread::Threads;
 use stn_io::{ReadRefusal, Sink, Source, read_all, write_all};
 
 /// Does the job that the words ask for, with the source as its input and the sink for its output.
 ///
 /// The input is read to its end before anything is written. What the sink takes is the whole
 /// report, one error line, or, with the status of a write fault, a prefix of one of these.
-pub fn run<S: Source, K: Sink>(
+///
+/// `solve` runs a worker in a thread of its own for each agent, and waits for them; the gate is the one by which they go. So this holds if the
+/// call returns. The other jobs start nothing and wait for nothing.
+pub fn run<R: Threads + Wait + Sync, S: Source, K: Sink, G: Gate + Sync>(
+    rt: &R,
     alloc: Global,
     words: &[Vec<u8>],
     source: &mut S,
     sink: &mut K,
+    gate: &G,
 ) -> Status
     // No job: nothing is read.
     ensures words_bad { job_of (map (λ w. w.items) words.now) ≡ None → (source.new ≡ source.old)
@@ -52,6 +63,8 @@ pub fn run<S: Source, K: Sink>(
         → Runs (says_of_json json.Check) (S.state source.old) (S.state source.new) (K.state sink.old) (K.state sink.new) result }
     ensures json { job_of (map (λ w. w.items) words.now) ≡ Some job.Json
         → Runs (says_of_json json.Print) (S.state source.old) (S.state source.new) (K.state sink.old) (K.state sink.new) result }
+    ensures solve { (pick : Pick) → job_of (map (λ w. w.items) words.now) ≡ Some (job.Solve pick)
+        → Runs (solves pick) (S.state source.old) (S.state source.new) (K.state sink.old) (K.state sink.new) result }
     // Nothing is read.
     ensures generated { (number size : ℕ) → job_of (map (λ w. w.items) words.now) ≡ Some (job.Gen number size) → (source.new ≡ source.old)
         × RunsAlone (Generates number size) (K.state sink.old) (K.state sink.new) result }
@@ -67,6 +80,7 @@ pub fn run<S: Source, K: Sink>(
         Some(Job::Repair) => run_repair(alloc, source, sink),
         Some(Job::CheckJson) => run_check_json(alloc, source, sink),
         Some(Job::Json) => run_json(alloc, source, sink),
+        Some(Job::Solve { pick }) => run_solve(rt, alloc, pick, source, sink, gate),
         Some(Job::Gen { number, size }) => run_gen(alloc, number, size, sink),
     }
 }
@@ -158,8 +172,58 @@ fn ask<S: Source>(alloc: Global, request: Request, source: &mut S) -> Result<Ans
     ensures refused { IfErr result (λ e. Refuses e (S.state source.old) (S.state source.new)) }
     ensures later { (S.state source.old).faults ≤ (S.state source.new).faults }
 {
-    let bytes = read_all(alloc, source, LONGEST_INPUT)?;
+    let bytes = read_input(alloc, source)?;
     let Ok(answer) = request.answer(alloc, bytes.as_slice()) else {
+        return Err(ReadRefusal::OutOfMemory);
+    };
+    Ok(answer)
+}
+
+/// Reads an input to its end.
+fn read_input<S: Source>(alloc: Global, source: &mut S) -> Result<Vec<u8>, ReadRefusal>
+    ensures whole { IfOk result (λ v. ReadsWhole (S.state source.old) (S.state source.new) v.items) }
+    ensures refused { IfErr result (λ e. Refuses e (S.state source.old) (S.state source.new)) }
+    ensures later { (S.state source.old).faults ≤ (S.state source.new).faults }
+{
+    let bytes = read_all(alloc, source, LONGEST_INPUT)?;
+    Ok(bytes)
+}
+
+/// Reads a network and a script, and solves the network by a worker for each agent, each of which eliminates its agent's private points in an order
+/// that the pick allows, and then shared points. Reports the joined order, or a negative cycle. Refused is what follows the network where it is
+/// no script, or has a command: none is built yet.
+pub fn run_solve<R: Threads + Wait + Sync, S: Source, K: Sink, G: Gate + Sync>(
+    rt: &R,
+    alloc: Global,
+    pick: Pick,
+    source: &mut S,
+    sink: &mut K,
+    gate: &G,
+) -> Status
+    ensures solve { Runs (solves pick) (S.state source.old) (S.state source.new) (K.state sink.old) (K.state sink.new) result }
+    ensures reads_later { (S.state source.old).faults ≤ (S.state source.new).faults }
+    ensures writes_later { (K.state sink.old).faults ≤ (K.state sink.new).faults }
+{
+    match ask_solve(rt, alloc, pick, source, gate) {
+        Ok(answer) => deliver(sink, answer.text.as_slice(), answer.outcome.status()),
+        Err(refusal) => refuse(sink, refusal),
+    }
+}
+
+/// Reads an input to its end, and solves its network.
+fn ask_solve<R: Threads + Wait + Sync, S: Source, G: Gate + Sync>(
+    rt: &R,
+    alloc: Global,
+    pick: Pick,
+    source: &mut S,
+    gate: &G,
+) -> Result<Answer, ReadRefusal>
+    ensures answer { IfOk result (λ a. (bytes : List ℕ) × ReadsWhole (S.state source.old) (S.state source.new) bytes × solves pick bytes a.outcome a.text.items) }
+    ensures refused { IfErr result (λ e. Refuses e (S.state source.old) (S.state source.new)) }
+    ensures later { (S.state source.old).faults ≤ (S.state source.new).faults }
+{
+    let bytes = read_input(alloc, source)?;
+    let Ok(answer) = solve_input(rt, alloc, pick, bytes.as_slice(), gate) else {
         return Err(ReadRefusal::OutOfMemory);
     };
     Ok(answer)

@@ -13,7 +13,7 @@ pub enum Status {
     WordsBad,
     /// 3: the input does not begin with a network text.
     NetBad,
-    /// 4: what follows the network is no script.
+    /// 4: what follows the network is no script, or one with a command that is not built.
     ScriptBad,
     /// 5: a read failed.
     ReadFault,

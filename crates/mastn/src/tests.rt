@@ -1,8 +1,10 @@
 //! Runs over memory: every status, with what the sink took.
 use crate::run::run;
 use crate::status::Status;
-use std::alloc::Global;
+use agent_worker::OpenGate;
+use std::sync::Wait;
 use std::test::Fail;
+use std::thread::Threads;
 use stn_io::{MemSink, MemSource};
 
 const CERTIFICATE: &[u8] =
@@ -19,6 +21,12 @@ const REFUTED: &[u8] =
 const TASK: &[u8] =
     b"mastn 2\nhorizon 100\nagent ann\nact ann dig 30 40\npoint ann x\narc dig.e x 5\nend\n";
 
+const HANDOVER: &[u8] =
+    b"mastn 1\nhorizon 100\nagent ann early\nagent bob early\npoint ann a1\npoint ann a2\npoint bob b1\npoint bob b2\narc z a1 20\nbound a1 a2 30 40\nbound a2 b1 0 5\nbound b1 b2 10 20\nend\n";
+
+const STAR: &[u8] =
+    b"mastn 1\nhorizon 10\nagent x early\npoint x hub\npoint x left\npoint x right\nbound hub left 0 5\nbound hub right 0 5\nend\n";
+
 const JSON: &[u8] =
     br#"{"mastn":2,"horizon":10,"agents":[{"name":"alice","points":["a"]}],"arcs":[]}"#;
 
@@ -32,12 +40,13 @@ const STORED: &[u8] = b"mastn 1\nhorizon 10\nagent alice early\npoint alice a\ne
 
 /// Runs the job of these words on this input, with a source and a sink that give and take pieces and fail at the listed calls.
 fn answer(
-    alloc: Global,
+    rt: &(impl Threads + Wait + Sync + AllocGlobal),
     words: &[&[u8]],
     input: &[u8],
     reads: (usize, &[u32]),
     writes: (usize, &[u32]),
 ) -> Result<(Status, Vec<u8>), Fail> {
+    let alloc = rt.alloc();
     let mut given = Vec::new(alloc);
     for word in words {
         given.push(Vec::from_slice(alloc, word)?)?;
@@ -48,7 +57,14 @@ fn answer(
     let piece = writes.0.max(1);
     let failing = Vec::from_slice(alloc, writes.1)?;
     let mut sink = MemSink::new(vec![in alloc; 0u8; 65536]?, piece, failing);
-    let status = run(alloc, given.as_slice(), &mut source, &mut sink);
+    let status = run(
+        rt,
+        alloc,
+        given.as_slice(),
+        &mut source,
+        &mut sink,
+        &OpenGate,
+    );
     let taken = Vec::from_slice(alloc, sink.bytes())?;
     Ok((status, taken))
 }
@@ -74,7 +90,7 @@ fn words_have_their_answers(rt: HostRuntime) -> Result<(), Fail> {
         (&[generate, zero, long], Status::WordsBad, bad),
     ];
     for (words, status, text) in cases {
-        let found = answer(rt.alloc(), words, STORED, (4096, &[]), (4096, &[]))?;
+        let found = answer(&rt, words, STORED, (4096, &[]), (4096, &[]))?;
         assert_eq!(rt; found.0, status);
         assert_eq!(rt; found.1.as_slice(), text);
     }
@@ -155,7 +171,7 @@ fn inputs_have_their_answers(rt: HostRuntime) -> Result<(), Fail> {
         (verify, b"", Status::NetBad, b"error 1 NoHeader\n"),
     ];
     for (word, input, status, text) in cases {
-        let found = answer(rt.alloc(), &[word], input, (4096, &[]), (4096, &[]))?;
+        let found = answer(&rt, &[word], input, (4096, &[]), (4096, &[]))?;
         assert_eq!(rt; found.0, status);
         assert_eq!(rt; found.1.as_slice(), text);
     }
@@ -194,7 +210,158 @@ fn inputs_in_json_have_their_answers(rt: HostRuntime) -> Result<(), Fail> {
         (&[json], STORED, Status::NetBad, b"error 0 JsonBad\n"),
     ];
     for (words, input, status, text) in cases {
-        let found = answer(rt.alloc(), words, input, (4096, &[]), (4096, &[]))?;
+        let found = answer(&rt, words, input, (4096, &[]), (4096, &[]))?;
+        assert_eq!(rt; found.0, status);
+        assert_eq!(rt; found.1.as_slice(), text);
+    }
+    Ok(())
+}
+
+/// The answer of `solve`, with more words behind it, for a network with a script behind it.
+fn solved(
+    rt: &(impl Threads + Wait + Sync + AllocGlobal),
+    more: &[&[u8]],
+    net: &[u8],
+    script: &[u8],
+) -> Result<(Status, Vec<u8>), Fail> {
+    let mut words: Vec<&[u8]> = Vec::new(rt.alloc());
+    words.push(b"solve")?;
+    words.extend_from_slice(more)?;
+    let mut input = Vec::from_slice(rt.alloc(), net)?;
+    input.extend_from_slice(script)?;
+    answer(
+        rt,
+        words.as_slice(),
+        input.as_slice(),
+        (4096, &[]),
+        (4096, &[]),
+    )
+}
+
+#[test]
+fn networks_are_solved(rt: HostRuntime) -> Result<(), Fail> {
+    let (pick, degree, number): (&[u8], &[u8], &[u8]) = (b"--pick", b"degree", b"number");
+    let by_degree: &[u8] = b"consistent\nprivate left\nprivate hub\nprivate right\ndone\n";
+    let by_number: &[u8] = b"consistent\nprivate hub\nprivate left\nprivate right\ndone\n";
+    let cases: [(&[&[u8]], &[u8], Status, &[u8]); 7] = [
+        (&[], STAR, Status::Done, by_degree),
+        (&[pick, degree], STAR, Status::Done, by_degree),
+        (&[pick, number], STAR, Status::Done, by_number),
+        (
+            &[],
+            CONFLICT,
+            Status::Inconsistent,
+            b"inconsistent\ncycle -2 2\narc 4 a b 3\narc 5 b a -5\n",
+        ),
+        (
+            &[],
+            b"mastn 1\nhorizon 0\nagent x\npoint x a\npoint x b\nbound a b 1 1\nend\n",
+            Status::Inconsistent,
+            b"inconsistent\ncycle -1 3\narc 1 a z 0\narc 2 z b 0\narc 5 b a -1\n",
+        ),
+        (
+            &[],
+            b"mastn 1\nhorizon 100\nagent ann early\nagent bob early\npoint ann a1\npoint ann a2\npoint bob b1\npoint bob b2\narc z a1 20\nbound a1 a2 30 40\nbound a2 b1 0 5\nbound b1 b2 10 20\narc z b1 20\nend\n",
+            Status::Inconsistent,
+            b"inconsistent\ncycle -10 4\narc 1 a1 z 0\narc 15 z b1 20\narc 12 b1 a2 0\narc 10 a2 a1 -30\n",
+        ),
+        (
+            &[],
+            b"mastn 1\nhorizon 100\nagent one\nagent two\nagent three\npoint one x\npoint two y\npoint three w\narc x y -5\narc y w -5\narc w x 9\nend\n",
+            Status::Inconsistent,
+            b"inconsistent\ncycle -1 3\narc 6 x y -5\narc 7 y w -5\narc 8 w x 9\n",
+        ),
+    ];
+    for (more, net, status, text) in cases {
+        let found = solved(&rt, more, net, b"done\n")?;
+        assert_eq!(rt; found.0, status);
+        assert_eq!(rt; found.1.as_slice(), text);
+    }
+    Ok(())
+}
+
+#[test]
+fn shared_points_come_in_either_order(rt: HostRuntime) -> Result<(), Fail> {
+    let found = solved(
+        &rt,
+        &[],
+        HANDOVER,
+        b"# nothing is asked\ndone\n\n# behind it\n",
+    )?;
+    let first: &[u8] = b"consistent\nprivate a1\nprivate b2\nshared a2\nshared b1\ndone\n";
+    let second: &[u8] = b"consistent\nprivate a1\nprivate b2\nshared b1\nshared a2\ndone\n";
+    assert_eq!(rt; found.0, Status::Done);
+    assert!(rt; found.1.as_slice() == first || found.1.as_slice() == second);
+    Ok(())
+}
+
+#[test]
+fn scripts_are_refused(rt: HostRuntime) -> Result<(), Fail> {
+    let (pick, degree, journal): (&[u8], &[u8], &[u8]) = (b"--pick", b"degree", b"--journal");
+    let bad: &[u8] = b"error 0 WordsBad\n";
+    let cases: [(&[&[u8]], &[u8], Status, &[u8]); 14] = [
+        (
+            &[],
+            b"choose a1 0\n",
+            Status::ScriptBad,
+            b"error 14 BeforeDecouple\n",
+        ),
+        (
+            &[],
+            b"batch\nclose\n",
+            Status::ScriptBad,
+            b"error 15 EmptyBatch\n",
+        ),
+        (
+            &[],
+            b"batch\ndone\n",
+            Status::ScriptBad,
+            b"error 15 BatchOpen\n",
+        ),
+        (
+            &[],
+            b"decouple\ntighten z a1 5\n",
+            Status::ScriptBad,
+            b"error 15 AfterDecouple\n",
+        ),
+        (
+            &[],
+            b"prove z c\n",
+            Status::ScriptBad,
+            b"error 14 NameUnknown\n",
+        ),
+        (&[], b"", Status::ScriptBad, b"error 14 NoDone\n"),
+        (
+            &[],
+            b"windows\ndone\n",
+            Status::ScriptBad,
+            b"error 0 NotBuilt\n",
+        ),
+        (
+            &[],
+            b"windows\ndone\n#\nx\n",
+            Status::ScriptBad,
+            b"error 17 AfterDone\n",
+        ),
+        (
+            &[],
+            b"done\nx\n",
+            Status::ScriptBad,
+            b"error 15 AfterDone\n",
+        ),
+        (&[journal], b"done\n", Status::WordsBad, bad),
+        (&[pick], b"done\n", Status::WordsBad, bad),
+        (&[pick, journal], b"done\n", Status::WordsBad, bad),
+        (&[degree, degree], b"done\n", Status::WordsBad, bad),
+        (
+            &[pick, degree, pick, degree],
+            b"done\n",
+            Status::WordsBad,
+            bad,
+        ),
+    ];
+    for (more, script, status, text) in cases {
+        let found = solved(&rt, more, HANDOVER, script)?;
         assert_eq!(rt; found.0, status);
         assert_eq!(rt; found.1.as_slice(), text);
     }
@@ -204,7 +371,7 @@ fn inputs_in_json_have_their_answers(rt: HostRuntime) -> Result<(), Fail> {
 #[test]
 fn failing_calls_have_their_answers(rt: HostRuntime) -> Result<(), Fail> {
     for call in 1..8u32 {
-        let found = answer(rt.alloc(), &[], STORED, (8, &[call]), (4096, &[]))?;
+        let found = answer(&rt, &[], STORED, (8, &[call]), (4096, &[]))?;
         assert_eq!(rt; found.0, Status::ReadFault, "read {call}");
         assert_eq!(rt; found.1.as_slice(), b"error 0 ReadFault\n".as_slice());
     }
@@ -215,7 +382,7 @@ fn failing_calls_have_their_answers(rt: HostRuntime) -> Result<(), Fail> {
         (4, b"consistent\ntime a "),
     ];
     for (call, taken) in cases {
-        let found = answer(rt.alloc(), &[], STORED, (4096, &[]), (6, &[call]))?;
+        let found = answer(&rt, &[], STORED, (4096, &[]), (6, &[call]))?;
         assert_eq!(rt; found.0, Status::WriteFault, "write {call}");
         assert_eq!(rt; found.1.as_slice(), taken, "write {call}");
     }
@@ -229,7 +396,7 @@ fn a_long_input_is_refused(rt: HostRuntime) -> Result<(), Fail> {
         (16_777_217, b"error 0 InputTooLong\n".as_slice()),
     ] {
         let input = vec![in rt.alloc(); b'\n'; length]?;
-        let found = answer(rt.alloc(), &[], input.as_slice(), (65536, &[]), (4096, &[]))?;
+        let found = answer(&rt, &[], input.as_slice(), (65536, &[]), (4096, &[]))?;
         assert_eq!(rt; found.1.as_slice(), text);
     }
     Ok(())

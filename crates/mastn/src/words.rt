@@ -1,9 +1,18 @@
 //! The words of the command line.
 ghost use Rattle.std.specs.Prelude.{◌≡◌, ◌≤◌, IfSome, map};
-ghost use Rattle.mastn.specs.Jobs.{job_of, lone_job, formed_job, sized_job, digits_of, gen_of, gen_within, IsWithinLimits};
+ghost use Rattle.mastn.specs.Jobs.{job_of, lone_job, formed_job, valued_job, pick_of, solve_of, digits_of, gen_of, gen_within, IsWithinLimits};
 
 use crate::limits::{GREATEST_NUMBER, GREATEST_SIZE};
 use net_text::numbers::number_of;
+
+/// Which of an agent's private points a solve eliminates next.
+#[derive(Clone, Copy, Debug, PartialEq, Eq)]
+pub enum Pick {
+    /// One with the fewest neighbours, and of several such the one of least number.
+    Degree,
+    /// The one of least number.
+    Number,
+}
 
 /// What the words of the command line ask for.
 #[derive(Clone, Copy, Debug, PartialEq, Eq)]
@@ -22,6 +31,8 @@ pub enum Job {
     CheckJson,
     /// `json`: read a network in JSON and write its plain form.
     Json,
+    /// `solve`, or `solve --pick degree`, or `solve --pick number`: read a network and a script, and solve the network by a worker for each agent.
+    Solve { pick: Pick },
     /// `gen NUMBER SIZE`: write the generated network of that number and size.
     Gen { number: u32, size: u32 },
 }
@@ -35,7 +46,9 @@ pub fn read_words(words: &[Vec<u8>]) -> Option<Job>
         [] => Some(Job::Check),
         [word] => read_lone(word.as_slice()),
         [word, form] => read_formed(word.as_slice(), form.as_slice()),
-        [word, number, size] => { read_sized(word.as_slice(), number.as_slice(), size.as_slice()) }
+        [word, first, second] => {
+            read_valued(word.as_slice(), first.as_slice(), second.as_slice())
+        }
         _ => None,
     }
 }
@@ -63,6 +76,9 @@ fn read_lone(word: &[u8]) -> Option<Job>
     if word == b"json".as_slice() {
         return Some(Job::Json);
     }
+    if word == b"solve".as_slice() {
+        return Some(Job::Solve { pick: Pick::Degree });
+    }
     None
 }
 
@@ -77,13 +93,38 @@ fn read_formed(word: &[u8], form: &[u8]) -> Option<Job>
     None
 }
 
-/// The job of a word with a number and a size.
-fn read_sized(word: &[u8], number: &[u8], size: &[u8]) -> Option<Job>
-    ensures job { result ≡ sized_job word.now number.now size.now }
+/// The job of a word with two more.
+fn read_valued(word: &[u8], first: &[u8], second: &[u8]) -> Option<Job>
+    ensures job { result ≡ valued_job word.now first.now second.now }
     ensures within { IfSome result IsWithinLimits }
 {
     if word == b"gen".as_slice() {
-        return read_gen(read_digits(number), read_digits(size));
+        return read_gen(read_digits(first), read_digits(second));
+    }
+    if word == b"solve".as_slice() && first == b"--pick".as_slice() {
+        return read_solve(second);
+    }
+    None
+}
+
+/// The job `solve` with the name of a pick.
+fn read_solve(name: &[u8]) -> Option<Job>
+    ensures job { result ≡ solve_of (pick_of name.now) }
+    ensures within { IfSome result IsWithinLimits }
+{
+    let pick = read_pick(name)?;
+    Some(Job::Solve { pick })
+}
+
+/// The pick of a name.
+fn read_pick(name: &[u8]) -> Option<Pick>
+    ensures { result ≡ pick_of name.now }
+{
+    if name == b"degree".as_slice() {
+        return Some(Pick::Degree);
+    }
+    if name == b"number".as_slice() {
+        return Some(Pick::Number);
     }
     None
 }
