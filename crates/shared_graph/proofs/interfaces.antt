@@ -3,3 +3,4 @@ pub mod Tables
 pub mod Fitting
 pub mod SharedPoints
 pub mod SameLists
+pub mod OwnPoints

@@ -1,6 +1,6 @@
--- What all agents know of a network from the start: SharedPoint, InterfaceView, points_of, owner_among, owner_in, is_listed, shared_points,
--- interface_of, Summary, IsEnd, IsFitting, IsInterface.
-use Rattle.std.specs.Prelude.{◌≡◌, ◌≢◌, ℕ, zero, suc, ◌+◌, ◌*◌, ◌<◌, ◌≤◌, ℤ, pos, nat_abs, ◌≤ℤ◌, Bool, true, ◌==◌, List, [], ◌∷◌, ◌++◌, map, length}
+-- What all agents know of a network from the start: SharedPoint, InterfaceView, points_of, owner_among, owner_in, is_listed, own_among,
+-- own_points_of, shared_points, interface_of, Summary, IsEnd, IsFitting, IsInterface.
+use Rattle.std.specs.Prelude.{◌≡◌, ◌≢◌, ℕ, zero, suc, ◌+◌, ◌*◌, ◌<◌, ◌≤◌, ℤ, pos, nat_abs, ◌≤ℤ◌, Bool, true, ◌==◌, List, [], ◌∷◌, ◌++◌, map, filter, length}
 use Rattle.std.specs.Prelude.{slice_index_or}
 use Rattle.std.specs.Prelude.{Option, Some, None, is_some, if◌then◌else◌, Contains, ◌⊎◌}
 use Rattle.std.specs.List.{All, AllPairs, list_any}
@@ -41,6 +41,14 @@ owner_in face p = owner_among face.points p
 -- whether a point is shared
 abbrev pub is_listed : InterfaceView → ℕ → Bool
 is_listed face p = is_some (owner_in face p)
+
+-- the points of an owner in a list, in their order
+abbrev pub own_among : List SharedPoint → ℕ → List ℕ
+own_among points agent = map (λ q. q.point) (filter (λ q. q.owner == agent) points)
+
+-- the shared points of an agent, by number
+abbrev pub own_points_of : InterfaceView → ℕ → List ℕ
+own_points_of face agent = own_among face.points agent
 
 -- the shared points from 1 to n, with their owners
 abbrev pub shared_points : Net → ℕ → List SharedPoint

@@ -1,13 +1,14 @@
 //! What all agents know of a network from the start.
-ghost use Rattle.std.specs.Prelude.{◌≡◌, ◌↔◌, ◌∷◌, [], ◌++◌, ◌<◌, IfOk, IsTrue, length, map, nat_eq, slice_index_or, if◌then◌else◌, None};
+ghost use Rattle.std.specs.Prelude.{◌≡◌, ◌↔◌, ◌∷◌, [], ◌++◌, ◌<◌, ◌^◌, IfOk, IfSome, IsTrue, length, map, nat_eq, slice_index_or, if◌then◌else◌, None, replicate};
+ghost use Rattle.std.specs.List.{All};
 ghost use Rattle.std.specs.Option.{option_map};
 ghost use Rattle.stn_model.specs.declared.ids.Lean.TheVariants.{Early};
 ghost use Rattle.stn_model.specs.Arcs.{arc_at};
 ghost use Rattle.stn_model.specs.Net.{point_count, arcs_of, owner_of};
 ghost use Rattle.stn_model.specs.Kinds.{is_external, is_shared};
 ghost use Rattle.stn_model.specs.Conflicts.{external_arcs};
-ghost use Rattle.shared_graph.specs.Views.{listed_from};
-ghost use Rattle.shared_graph.specs.Interfaces.{IsInterface, IsFitting, IsEnd, points_of, owner_in, shared_points, interface_of};
+ghost use Rattle.shared_graph.specs.Views.{listed_from, own_after, AreOwn};
+ghost use Rattle.shared_graph.specs.Interfaces.{IsInterface, IsFitting, IsEnd, points_of, own_points_of, owner_in, shared_points, interface_of};
 
 use crate::lists::push_where;
 use elim_step::Summary;
@@ -26,6 +27,8 @@ pub struct Interface {
     points: Vec<PointId>,
     /// For each point, by number, its owner where it is shared.
     owners: Vec<Option<AgentId>>,
+    /// For each agent, its shared points, by number.
+    own: Vec<Vec<PointId>>,
     externals: Vec<Constraint>,
 }
 
@@ -52,12 +55,14 @@ impl Interface {
     {
         let leans = leans_of(alloc, net)?;
         let (points, owners) = shared_of(alloc, net)?;
+        let own = own_of(alloc, net.agents(), owners.as_slice())?;
         let externals = externals_of(alloc, net)?;
         Ok(Interface {
             horizon: net.horizon(),
             leans,
             points,
             owners,
+            own,
             externals,
         })
     }
@@ -90,6 +95,15 @@ impl Interface {
         ensures valid { IsInterface self.now }
     {
         &self.points
+    }
+
+    /// The shared points of an agent, by number.
+    pub fn own_points(&self, agent: AgentId) -> &[PointId]
+        requires { agent.0 < length self.now.leans }
+        ensures points { map (λ p. p.0) result.now ≡ own_points_of self.now agent.0 }
+        ensures valid { IsInterface self.now }
+    {
+        self.own[agent.0 as usize].as_slice()
     }
 
     /// The owner of a shared point; None exactly where the point is not shared.
@@ -145,12 +159,14 @@ impl Interface {
         let leans = Vec::from_slice(alloc, self.leans.as_slice())?;
         let points = Vec::from_slice(alloc, self.points.as_slice())?;
         let owners = Vec::from_slice(alloc, self.owners.as_slice())?;
+        let own = copy_own(alloc, self.own.as_slice())?;
         let externals = Vec::from_slice(alloc, self.externals.as_slice())?;
         Ok(Interface {
             horizon: self.horizon,
             leans,
             points,
             owners,
+            own,
             externals,
         })
     }
@@ -233,6 +249,7 @@ fn shared_of(
 ) -> Result<(Vec<PointId>, Vec<Option<AgentId>>), OutOfMemory>
     ensures points { IfOk result (λ parts. map (λ p. p.0) parts.0.items ≡ map (λ q. q.point) (shared_points net.now (length net.now.places))) }
     ensures owners { IfOk result (λ parts. listed_from 0 parts.1.items ≡ shared_points net.now (length net.now.places)) }
+    ensures rows { IfOk result (λ parts. length parts.1.items ≡ point_count net.now) }
 {
     let mut points = Vec::new(alloc);
     let mut owners = Vec::with_capacity(alloc, net.points() as usize)?;
@@ -244,6 +261,60 @@ fn shared_of(
         owners.push(owner)?;
     }
     Ok((points, owners))
+}
+
+/// For each agent, its shared points, by number.
+fn own_of(
+    alloc: Global,
+    agents: u32,
+    owners: &[Option<AgentId>],
+) -> Result<Vec<Vec<PointId>>, OutOfMemory>
+    requires few { length owners.now < 2 ^ 32 }
+    requires agents { All (λ q. q.owner < agents) (listed_from 0 owners.now) }
+    ensures { IfOk result (λ own. AreOwn agents (listed_from 0 owners.now) (map (λ l. l.items) own.items)) }
+{
+    let mut own = no_points(alloc, agents)?;
+    for p in 0..owners.len() {
+        push_own(&mut own, PointId(p as u32), owners[p])?;
+    }
+    Ok(own)
+}
+
+/// For each agent an empty list.
+fn no_points(alloc: Global, agents: u32) -> Result<Vec<Vec<PointId>>, OutOfMemory>
+    ensures { IfOk result (λ own. map (λ l. l.items) own.items ≡ replicate agents []) }
+{
+    let mut own = Vec::with_capacity(alloc, agents as usize)?;
+    for _ in 0..agents {
+        own.push(Vec::new(alloc))?;
+    }
+    Ok(own)
+}
+
+/// Puts a point at the end of its owner's list, where it has an owner.
+fn push_own(
+    own: &mut Vec<Vec<PointId>>,
+    point: PointId,
+    owner: Option<AgentId>,
+) -> Result<(), OutOfMemory>
+    requires { IfSome owner (λ a. a.0 < length own.old.items) }
+    ensures { IfOk result (λ _. map (λ l. l.items) own.new.items ≡ own_after (map (λ l. l.items) own.old.items) point owner) }
+{
+    if let Some(agent) = owner {
+        own[agent.0 as usize].push(point)?;
+    }
+    Ok(())
+}
+
+/// The same lists.
+fn copy_own(alloc: Global, own: &[Vec<PointId>]) -> Result<Vec<Vec<PointId>>, OutOfMemory>
+    ensures { IfOk result (λ copies. map (λ l. l.items) copies.items ≡ map (λ l. l.items) own.now) }
+{
+    let mut copies = Vec::with_capacity(alloc, own.len())?;
+    for list in own {
+        copies.push(Vec::from_slice(alloc, list.as_slice())?)?;
+    }
+    Ok(copies)
 }
 
 /// The owner of a point where it is shared.

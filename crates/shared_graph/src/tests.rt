@@ -11,6 +11,8 @@ use stn_model::{AgentId, PointId};
 fn reads(rt: &impl Abort, face: &Interface) {
     assert_eq!(rt; face.agents(), 2);
     assert_eq!(rt; face.points(), [PointId(2), PointId(3)].as_slice());
+    assert_eq!(rt; face.own_points(AgentId(0)), [PointId(2)].as_slice());
+    assert_eq!(rt; face.own_points(AgentId(1)), [PointId(3)].as_slice());
     assert_eq!(rt; face.externals(), 2);
     assert_eq!(rt; face.external(1).from, PointId(3));
     let owners = [None, None, Some(AgentId(0)), Some(AgentId(1)), None, None];

@@ -1,5 +1,5 @@
 -- Tables of owners by point: what one row more lists, the owner of a point, and the points that a network's table lists.
---   listed_push                           one row more
+--   one_at, listed_push                   what a row lists, and one row more
 --   owner_missing, owner_found            the owner of a point past the end, and of one in the table
 --   rows_push                             the rows of a network's points, one by one
 use Rattle.std.proofs.Common.{zero, suc, ◌≡◌, ℕ, ◌+◌, ◌-◌, ◌<◌, ◌≤◌, List, [], ◌∷◌, ◌++◌, true, false, Bool, Option, Some, None, is_some, ap, sym, ◌∙◌, refl}
@@ -26,7 +26,7 @@ found None = None
 found (Some o) = number_of o
 
 -- what a row lists
-abbrev one_at : ℕ → Option AgentId → List SharedPoint
+abbrev pub one_at : ℕ → Option AgentId → List SharedPoint
 one_at p None = []
 one_at p (Some a) = record { point = p; owner = a.0 } ∷ []
 
