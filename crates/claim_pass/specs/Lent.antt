@@ -1,7 +1,6 @@
 -- What an agent's worker does to a shared graph that it holds: entry_of, IsPublishedBy, IsPublish, is_own, own_points, candidate_of, candidates_in,
--- own_degree, IsPicked, IsTaken, IsPickedStep, IsClaim, is_legal_step, IsRevisitedBy, IsLeastBy, IsStep.
-use Rattle.std.specs.Prelude.{◌≡◌, ◌≢◌, ℕ, ◌≤◌, Bool, true, ◌&&◌, not, List, [], ◌∷◌, ◌++◌, map, filter, length, Option, Some, None, is_some, ◌⊎◌}
-use Rattle.std.specs.Prelude.{if◌then◌else◌}
+-- IsPicked, IsTaken, IsPickedStep, IsClaim, is_legal_step, IsRevisitedBy, IsLeastBy, IsStep.
+use Rattle.std.specs.Prelude.{◌≡◌, ◌≢◌, ℕ, ◌≤◌, Bool, true, ◌&&◌, not, List, [], ◌∷◌, ◌++◌, map, filter, length, Some, None, is_some, ◌⊎◌}
 use Rattle.stn_model.specs.declared.ids.AgentId.{AgentId}
 use Rattle.stn_model.specs.declared.ids.PointId.{PointId}
 use Rattle.stn_walk.specs.Eliminations.{is_in}
@@ -58,10 +57,6 @@ candidate_of face s p = record { degree = left_count face s p; number = p }
 
 abbrev pub candidates_in : InterfaceView → State → ℕ → List Candidate
 candidates_in face s agent = map (candidate_of face s) (own_points face s agent)
-
--- the degree of a point as a candidate
-abbrev pub own_degree : InterfaceView → State → ℕ → ℕ → Option ℕ
-own_degree face s agent p = if is_own face s agent p then Some (left_count face s p) else None
 
 -- the picker allows the point among these
 pub record IsPicked (answers : ℕ → ℕ → ℕ → Type 0) (face : InterfaceView) (s : State) (agent point : ℕ) : Type 0 where

@@ -6,7 +6,7 @@ ghost use Rattle.shared_graph.specs.declared.events.Phase.TheVariants.{Reverse};
 ghost use Rattle.shared_graph.specs.Journals.{IsEliminatedBy};
 ghost use Rattle.shared_graph.specs.Refusals.{refusal};
 ghost use Rattle.shared_graph.specs.Takes.{MayEliminate};
-ghost use Rattle.claim_pass.specs.Lent.{candidates_in, own_degree, entry_of, IsPublish, IsClaim, IsTaken, IsRevisitedBy, IsStep};
+ghost use Rattle.claim_pass.specs.Lent.{candidates_in, entry_of, IsPublish, IsClaim, IsTaken, IsRevisitedBy, IsStep};
 
 use crate::answers::{Claim, Did, Published};
 use elim_step::{Candidate, Picker, Steps, Summary};
@@ -41,23 +41,15 @@ pub fn publish_lent(
     Ok(Published::Entered { place })
 }
 
-// The degree of a shared point, where it is the agent's and not eliminated.
-fn own_degree(shared: &Shared, agent: AgentId, point: PointId) -> Option<u32>
-    ensures { result ≡ own_degree shared.now.face shared.now.state agent.0 point.0 }
-{
-    match shared.interface().owner(point) {
-        Some(owner) if owner == agent => shared.degree(point),
-        _ => None,
-    }
-}
-
 // The shared points of an agent that are not eliminated, by number, with their degrees.
 fn candidates(alloc: Global, shared: &Shared, agent: AgentId) -> Result<Vec<Candidate>, OutOfMemory>
+    requires { agent.0 < length shared.now.face.leans }
     ensures { IfOk result (λ v. v.items ≡ candidates_in shared.now.face shared.now.state agent.0) }
 {
-    let mut candidates = Vec::new(alloc);
-    for &point in shared.interface().points() {
-        if let Some(degree) = own_degree(shared, agent, point) {
+    let own = shared.interface().own_points(agent);
+    let mut candidates = Vec::with_capacity(alloc, own.len())?;
+    for &point in own {
+        if let Some(degree) = shared.degree(point) {
             candidates.push(Candidate {
                 degree,
                 number: point.0,

@@ -6,5 +6,5 @@ use Rattle.claim_pass.proofs.lent.candidates.Given as goal
 -- with those of the points that are left they are all
 abbrev pub invariant-loop-point : goal.invariant-loop-point
 invariant-loop-point l =
-    l.candidates.items ++ taken_from l.shared.face l.shared.state l.agent.0 (drop l.point-index l.point-items)
-    ≡ candidates_in l.shared.face l.shared.state l.agent.0
+    l.candidates.items ++ taken_from l.shared.face l.shared.state (drop l.point-index l.own)
+    ≡ candidates_in l.shared.face l.shared.state l.fn.agent.0
