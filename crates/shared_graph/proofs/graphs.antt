@@ -21,8 +21,8 @@ pub mod Taking
 pub mod Degrees
 pub mod Readying
 pub mod Revisiting
-pub mod Offering
 pub mod Legs
 pub mod TellOnce
 pub mod Readied
+pub mod Relaying
 pub mod Onward

@@ -78,7 +78,10 @@ impl Shared {
                 self.publish_all(alloc, summaries)?;
                 self.eliminate_all::<Brand>(alloc, Blank::new(1))
             }
-            Phase::Reverse => self.revisit_all::<Brand>(alloc, Blank::new(1)),
+            Phase::Reverse => {
+                self.revisit_all::<Brand>(Blank::new(1));
+                Ok(())
+            }
             Phase::Assign | Phase::Widen => unreachable!(),
         }
     }
@@ -171,27 +174,21 @@ impl Shared {
         }
     }
 
-    // Each shared point that is not revisited is: again and again the least one that may be. Where memory runs out, the steps made so far stand.
-    fn revisit_all<L: Ledger>(&mut self, alloc: Global, blank: Blank) -> Result<(), OutOfMemory>
+    // Each shared point that is not revisited is: again and again the least one that may be.
+    fn revisit_all<L: Ledger>(&mut self, blank: Blank)
         requires name { blank.name ≡ L.name }
         requires parts { blank.parts ≡ L.parts }
         requires one_part { blank.parts ≡ 1 }
         requires going { self.old.state.stop ≡ None }
         requires ready { IsDone self.old.face self.old.state Order }
         ensures finished { (summaries : List Summary) → AgreeWith summaries self.old.state → IsFinished summaries Reverse self.old self.new }
-        ensures done { OnOk result (IsDone self.new.face self.new.state Reverse) }
+        ensures done { IsDone self.new.face self.new.state Reverse }
     {
-        let mut ready = self.graph.ready(alloc)?;
-        let all = vec![in alloc; true; ready.size() as usize]?;
-        let mut list = Vec::new(alloc);
         let mut steps = Steps::<L>::new(blank);
-        while let Some(place) = ready.first() {
-            let point = self.graph.point_at(place);
+        while let Some(point) = self.least_revisit() {
             self.revisit(By::Joiner, point, &mut steps);
-            self.graph
-                .renew(place, all.as_slice(), &mut list, &mut ready)?;
         }
-        Ok(())
+        let _journal = self.journal();
     }
 }
 

@@ -18,7 +18,7 @@ use crate::events::{Entry, Illegal, SharedCycle};
 use crate::graph::Graph;
 use crate::interface::Interface;
 use dist_rows::Cell;
-use elim_step::Summary;
+use elim_step::{Ranking, Summary};
 use sparse_rows::SparseRows;
 use std::alloc::Global;
 use std::marker::Model;
@@ -31,6 +31,11 @@ pub struct Shared {
     pub(crate) graph: Graph<SparseRows>,
     /// With room for the revisits that are left.
     pub(crate) journal: Vec<Entry>,
+    /// Which places' points may be revisited, kept from step to step.
+    pub(crate) ready: Ranking,
+    /// A list that is true of each place, and one with room for all places and anything in it: what a revisit uses.
+    pub(crate) all: Vec<bool>,
+    pub(crate) near: Vec<u32>,
 }
 
 impl Model for Shared {
@@ -39,12 +44,15 @@ impl Model for Shared {
     ghost Value = { SharedView };
 
     ghost use Rattle.std.specs.Prelude.{◌+◌, ◌≤◌, length, vec_capacity};
+    ghost use Rattle.elim_step.specs.Ranked.{key_at};
     ghost use Rattle.shared_graph.specs.Histories.{IsJournal, unvisited_in};
+    ghost use Rattle.shared_graph.specs.Readiness.{IsRelay};
 
     ghost view = { λ s. record { face = s.graph.face; state = s.graph.state; journal = s.journal.items } };
 
     ghost invariant = { λ s. IsJournal s.graph.face s.graph.state s.journal.items
-        × (length s.journal.items + unvisited_in s.graph.face s.graph.state ≤ vec_capacity s.journal) };
+        × (length s.journal.items + unvisited_in s.graph.face s.graph.state ≤ vec_capacity s.journal)
+        × IsRelay s.graph.face s.graph.state s.ready.size (key_at s.ready) s.all.items };
 }
 
 impl Shared {
@@ -60,7 +68,16 @@ impl Shared {
         let finals = SparseRows::new(alloc, places)?;
         let graph = Graph::start(alloc, interface, rows, finals)?;
         let journal = Vec::with_capacity(alloc, shared)?;
-        Ok(Shared { graph, journal })
+        let ready = graph.ready(alloc)?;
+        let all = graph.all_places(alloc)?;
+        let near = Vec::with_capacity(alloc, all.len())?;
+        Ok(Shared {
+            graph,
+            journal,
+            ready,
+            all,
+            near,
+        })
     }
 
     /// Why an entry is illegal now: the first of its tests that fails, with the least point or agent that it names. None exactly where the entry is
@@ -157,6 +174,15 @@ impl Shared {
         for &entry in self.journal.as_slice() {
             journal.push_reserved(entry);
         }
-        Ok(Shared { graph, journal })
+        let ready = graph.ready(alloc)?;
+        let all = graph.all_places(alloc)?;
+        let near = Vec::with_capacity(alloc, all.len())?;
+        Ok(Shared {
+            graph,
+            journal,
+            ready,
+            all,
+            near,
+        })
     }
 }

@@ -31,6 +31,7 @@ impl Shared {
     {
         self.journal.reserve(1 + self.graph.unvisited() as usize)?;
         self.graph.publish(alloc, agent, summary)?;
+        self.graph.first_keys(&mut self.ready);
         self.journal.push_reserved(Entry {
             by,
             event: Event::Publish { agent },
@@ -56,6 +57,7 @@ impl Shared {
     {
         self.journal.reserve(1 + self.graph.unvisited() as usize)?;
         let Some(other) = self.graph.take(alloc, point, steps)? else {
+            self.graph.first_keys(&mut self.ready);
             self.journal.push_reserved(Entry {
                 by,
                 event: Event::Eliminate { point },
@@ -80,7 +82,11 @@ impl Shared {
         ensures least { steps.old < steps.new }
         ensures most { let d = later_count self.old.face self.old.state point.0 in steps.new ≤ steps.old + 2 * d * d }
     {
+        let Some(place) = self.graph.place_of(point) else {
+            unreachable!()
+        };
         self.graph.revisit(point, steps);
+        self.graph.keep_keys(place, self.all.as_slice(), &mut self.near, &mut self.ready);
         self.journal.push_reserved(Entry {
             by,
             event: Event::Revisit { point },

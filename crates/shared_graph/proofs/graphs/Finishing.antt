@@ -1,5 +1,5 @@
 -- The joiner's steps of a phase, each the least that is left: finished_nothing, finished_one, finished_join, finished_publish, published_or_not,
--- agree_same; which steps are the least: least_publish, may_take, finished_taken, least_revisit; what an elimination leaves: taken_face,
+-- agree_same; which steps are the least: least_publish, may_take, finished_taken; what an elimination leaves: taken_face,
 -- taken_published, taken_kept; points by item: item_of, item_listed, items_rise, below_items, below_points,
 -- next_point, all_points, same_length; and what stays: still_published, stays_going.
 use Rattle.std.proofs.Common.{◌≡◌, ℕ, ◌+◌, ◌<◌, ◌≤◌, List, [], ◌∷◌, ◌++◌, Bool, true, false, ◌||◌, Option, Some, None, ap, sym, ◌∙◌, refl, arith}
@@ -20,7 +20,7 @@ use Rattle.shared_graph.specs.declared.events.Event.{Event}
 use Rattle.shared_graph.specs.declared.events.Event.TheVariants.{Publish, Eliminate, Stop, Revisit, Assign, Widen}
 use Rattle.shared_graph.specs.declared.events.Illegal.TheVariants.{Stopped as StoppedBefore, AlreadyDone}
 use Rattle.shared_graph.specs.declared.events.Phase.{Phase}
-use Rattle.shared_graph.specs.declared.events.Phase.TheVariants.{Order, Reverse}
+use Rattle.shared_graph.specs.declared.events.Phase.TheVariants.{Order}
 use Rattle.shared_graph.specs.declared.events.SharedCycle.{SharedCycle}
 use Rattle.shared_graph.specs.Histories.{SharedView}
 use Rattle.shared_graph.specs.Interfaces.{InterfaceView, Summary, IsInterface, owner_in, points_of, is_listed}
@@ -34,7 +34,7 @@ use Rattle.shared_graph.specs.Together.{IsAllPublished, IsWhole, IsOwned}
 use Rattle.shared_graph.specs.Weights.{least_negative}
 use Rattle.shared_graph.proofs.states.Keeps.{IsSound}
 use Rattle.shared_graph.proofs.states.Meetings.{listed_of, owner_of_listed}
-use Rattle.shared_graph.proofs.states.Passing.{no_stop, publish_passes, eliminate_passes, stop_passes, revisit_passes, listed_in}
+use Rattle.shared_graph.proofs.states.Passing.{no_stop, publish_passes, eliminate_passes, stop_passes, listed_in}
 use Rattle.shared_graph.proofs.graphs.FirstTimes.{owner_below}
 use Rattle.shared_graph.proofs.graphs.Scans.{listed_item}
 use Rattle.shared_graph.proofs.graphs.Standing.{rises_pairs}
@@ -287,34 +287,6 @@ module _ (face : InterfaceView) (known : IsInterface face) (items : List PointId
   pub below_points : (s : State) (n : ℕ) → n < length items → ((m : ℕ) → m < n → is_in s.order (get_or (points_of face) m 0) ≡ true)
       → (p : ℕ) → is_listed face p ≡ true → p < (get_or items n (point_id 0)).0 → is_in s.order p ≡ true
   below_points s n lt done = below_items s n lt (λ m low. subst (λ q. is_in s.order q ≡ true) (item_is m (omega arith)) (done m low))
-
-  module _ (s : State) where
-    -- the least point that may be revisited
-    pub least_revisit : (n : ℕ) → n < length items → refusal face s (record { by = Joiner; event = Revisit (get_or items n (point_id 0)) }) ≡ None
-        → ((m : ℕ) → m < n → is_some (refusal face s (record { by = Joiner; event = Revisit (get_or items m (point_id 0)) })) ≡ true)
-        → IsLeastStep face s Reverse (record { by = Joiner; event = Revisit (get_or items n (point_id 0)) })
-    least_revisit n lt legal before = record { joiner = refl; step = refl; legal = legal; least = first } where
-      not_legal : (m : ℕ) → m < n → refusal face s (record { by = Joiner; event = Revisit (get_or items m (point_id 0)) }) ≡ None → ⊥
-      not_legal m low none = false≢true (sym (ap (λ o. is_some o) none) ∙ before m low)
-
-      first : (f : Event) → is_step_of Reverse f ≡ true → refusal face s (record { by = Joiner; event = f }) ≡ None
-          → (get_or items n (point_id 0)).0 ≤ rank_of f
-      first (Publish b) is ok = absurd (false≢true is)
-      first (Eliminate p) is ok = absurd (false≢true is)
-      first (Stop p i) is ok = absurd (false≢true is)
-      first (Revisit p) is ok =
-          (let listed = (revisit_passes face s Joiner p.0 (no_stop face s (record { by = Joiner; event = Revisit p }) ok).1).0 in
-          let r = item_of p.0 listed in
-          elim (cases_lt p.0 (get_or items n (point_id 0)).0) [
-            | inl less ↦
-                (let e = r.2 in
-                let same_point : p ≡ get_or items r.0 (point_id 0) = ap point_id (sym r.2) in
-                absurd (not_legal r.0 (items_rise r.0 n lt r.1 (omega arith))
-                (subst (λ q. refusal face s (record { by = Joiner; event = Revisit q }) ≡ None) same_point ok)))
-            | inr more ↦ more
-          ])
-      first (Assign p v) is ok = absurd (false≢true is)
-      first (Widen p end) is ok = absurd (false≢true is)
 
 -- one point more is eliminated
 pub next_point : (face new : InterfaceView) → IsInterface face → (items : List PointId) → map (λ (p : PointId). p.0) items ≡ points_of face

@@ -1,15 +1,14 @@
 -- Journals that go on from one another: replay-append, replays_alike, agree_alike, goes_on, stands_for; and with steps of the phase of revisits:
 -- revisits_keep, still_stands.
-use Rattle.std.proofs.Common.{zero, suc, ◌≡◌, ◌≢◌, ℕ, ◌<◌, ◌≤◌, List, [], ◌∷◌, ◌++◌, Bool, true, false, ◌||◌, Option, Some, None, ap, sym, ◌∙◌, refl, arith}
-use Rattle.std.proofs.Common.{inl, inr, subst}
+use Rattle.std.proofs.Common.{◌≡◌, ℕ, List, [], ◌∷◌, ◌++◌, true, ◌||◌, Some, None, ap, sym, ◌∙◌, refl}
+use Rattle.std.proofs.Common.{subst}
 use Rattle.std.specs.Prelude.{◌==◌, if◌then◌else◌, is_some}
 use Rattle.std.specs.List.{AllByRecursion}
 use Rattle.std.proofs.Math.Bool.{or-true}
-use Rattle.std.proofs.lemmas.Bool.{cases_eq, or_cases, false≢true, eq-eqb}
+use Rattle.std.proofs.lemmas.Bool.{eq-eqb}
 use Rattle.shared_graph.specs.declared.events.Entry.{Entry}
 use Rattle.shared_graph.specs.declared.events.Event.{Event}
 use Rattle.shared_graph.specs.declared.events.Event.TheVariants.{Publish, Eliminate, Stop, Revisit, Assign, Widen}
-use Rattle.shared_graph.specs.declared.events.Illegal.{Illegal}
 use Rattle.shared_graph.specs.declared.events.Phase.TheVariants.{Reverse}
 use Rattle.stn_model.specs.Net.{Net}
 use Rattle.stn_model.specs.Valid.{IsNetwork}
@@ -21,8 +20,7 @@ use Rattle.shared_graph.specs.Refusals.{refusal}
 use Rattle.shared_graph.specs.Replays.{summary_of, AreRight, after, replay}
 use Rattle.shared_graph.specs.States.{State, Published, published_in, is_published, start}
 use Rattle.shared_graph.proofs.graphs.TellOnce.{listed_entries, published_listed}
-use Rattle.shared_graph.proofs.states.Listed.{AreListed, listed_replay, start_listed}
-use Rattle.shared_graph.proofs.states.Passing.{no_stop, publish_passes}
+use Rattle.shared_graph.proofs.states.Listed.{listed_replay, start_listed}
 
 -- the replay of one list and then of another
 pub replay-append : (face : InterfaceView) (summaries : List Summary) (es fs : List Entry) (s t : State) → replay face summaries s es ≡ Some t

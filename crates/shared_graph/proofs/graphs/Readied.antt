@@ -1,5 +1,5 @@
--- Keys of the points that may be revisited: key_is, keys_more, none_more, set_beyond; joined_points, renew_begins, renew_more, renew_ends; after a
--- revisit: keys_after; which place comes first: first_within, first_ready, none_ready.
+-- Keys of the points that may be revisited: key_is, set_beyond; joined_points, renew_begins, renew_more, renew_ends; after a revisit: keys_after; which
+-- place comes first: keyed, first_ready.
 use Rattle.std.proofs.Common.{◌≡◌, ◌≢◌, ℕ, ◌+◌, ◌<◌, ◌≤◌, List, [], ◌∷◌, Bool, true, false, ◌&&◌, ◌||◌, not, Option, Some, None, ap, sym, ◌∙◌, refl}
 use Rattle.std.proofs.Common.{arith, inl, inr, length, subst, get_or, drop}
 use Rattle.std.specs.Prelude.{◌==◌, if◌then◌else◌, is_some, nat_lt}
@@ -22,17 +22,14 @@ use Rattle.shared_graph.specs.declared.events.Illegal.TheVariants.{NotShared, Al
 use Rattle.shared_graph.specs.declared.events.Phase.TheVariants.{Reverse}
 use Rattle.shared_graph.specs.Graphs.{GraphView, places_in, Fields, IsGraph}
 use Rattle.shared_graph.specs.Interfaces.{InterfaceView, IsInterface, points_of, is_listed}
-use Rattle.shared_graph.specs.Journals.{is_step_of, rank_of, IsLeastStep, IsDone}
+use Rattle.shared_graph.specs.Journals.{is_step_of, rank_of, IsLeastStep}
 use Rattle.shared_graph.specs.Readiness.{revisit_key, AreKeys, AreKeysBut}
 use Rattle.shared_graph.specs.Refusals.{not_published, order_open, neighbour_first, or_else, first_below, refusal}
 use Rattle.shared_graph.specs.States.{State, point_id, is_published, is_revisited}
-use Rattle.shared_graph.specs.Together.{IsAllPublished, IsWhole}
 use Rattle.shared_graph.specs.Weights.{first_passing, is_joined, is_later}
 use Rattle.shared_graph.proofs.graphs.Standing.{places_rise, place_of_listed}
 use Rattle.shared_graph.proofs.graphs.Telling.{joined_turned}
-use Rattle.shared_graph.proofs.states.Keeps.{IsSound}
 use Rattle.shared_graph.proofs.states.Passing.{no_stop, revisit_passes}
-use Rattle.shared_graph.proofs.states.Progress.{may_revisit}
 
 -- the key of a point, from the answer of its tests
 pub key_is : (face : InterfaceView) (s : State) (p : ℕ) (k : PointId) (o : Option Illegal) → k.0 ≡ p
@@ -57,14 +54,6 @@ module _ (face : InterfaceView) (s : State) (keys after : ℕ → Option ℕ) (m
 
   pub set_beyond : ((k : ℕ) → length (places_in face) ≤ k → keys k ≡ None) → (k : ℕ) → length (places_in face) ≤ k → after k ≡ None
   set_beyond none k high = set_other keys after m key set k (λ e. absurd (omega arith)) ∙ none k high
-
-  -- one place more
-  pub keys_more : ((k : ℕ) → k < m → keys k ≡ revisit_key face s (point_at (places_in face) k)) → (k : ℕ) → k < m + 1
-      → after k ≡ revisit_key face s (point_at (places_in face) k)
-  keys_more before k lt = set_right k (λ apart. before k (omega arith))
-
-  pub none_more : ((k : ℕ) → m ≤ k → keys k ≡ None) → (k : ℕ) → m + 1 ≤ k → after k ≡ None
-  none_more none k high = set_other keys after m key set k (λ e. absurd (omega arith)) ∙ none k (omega arith)
 
   -- one neighbour more
   pub renew_more : (list : List ℕ) (n : ℕ) → n < length list → get_or list n 0 ≡ m
@@ -164,7 +153,7 @@ key_of_legal (Some c) h = absurd (cc)
 
 module _ (face : InterfaceView) (known : IsInterface face) (s : State) (keys : ℕ → Option ℕ) (right : AreKeys face s keys) where
   -- a legal point has a key at its place
-  keyed : (p : ℕ) → refusal face s (record { by = Joiner; event = Revisit (point_id p) }) ≡ None
+  pub keyed : (p : ℕ) → refusal face s (record { by = Joiner; event = Revisit (point_id p) }) ≡ None
       → (k : ℕ) × (k < length (places_in face)) × (point_at (places_in face) k ≡ p) × (keys k ≡ Some 0)
   keyed p legal =
       let listed = (revisit_passes face s Joiner p (no_stop face s (record { by = Joiner; event = Revisit (point_id p) }) legal).1).0 in
@@ -175,7 +164,7 @@ module _ (face : InterfaceView) (known : IsInterface face) (s : State) (keys : �
         right.within r.0 r.2 ∙ ap (revisit_key face s) r.3 ∙ key_of_legal (refusal face s (record { by = Joiner; event = Revisit (point_id p) })) legal,
       )
 
-  pub first_within : (place a : ℕ) → keys place ≡ Some a → place < length (places_in face)
+  first_within : (place a : ℕ) → keys place ≡ Some a → place < length (places_in face)
   first_within place a key = elim (cases_lt place (length (places_in face))) [
     | inl low ↦ low
     | inr high ↦ absurd (let f = sym (right.beyond place high) ∙ key in cc)
@@ -220,13 +209,3 @@ module _ (face : InterfaceView) (known : IsInterface face) (s : State) (keys : �
             omega arith)
         least low z (Assign p v) is ok = absurd (false≢true is)
         least low z (Widen p end) is ok = absurd (false≢true is)
-
-  -- where no place comes first, all points are revisited
-  pub none_ready : IsSound face s → s.stop ≡ None → IsAllPublished face s → IsWhole face s → IsFirst keys None → IsDone face s Reverse
-  none_ready sound going all whole none p listed = go (is_in s.revisited p) refl where
-    go : (b : Bool) → is_in s.revisited p ≡ b → is_in s.revisited p ≡ true
-    go true t = t
-    go false t =
-        (let there = may_revisit face known s sound going all whole p listed t in
-        let r = keyed there.0 there.2 in
-        absurd (let f = sym (none r.0) ∙ r.3 in cc))

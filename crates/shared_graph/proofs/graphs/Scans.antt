@@ -1,5 +1,5 @@
 -- Firsts among points and agents, as scans find them: none_counted, but_first, below_is, passing_is, listed_item, passing_same, passing_here,
--- passing_on, passing_past; by the flags of places: taken_at, revisited_at, all_taken, all_revisited; among later neighbours: flag_read, list_read,
+-- passing_on, passing_past; by the flags of places: taken_is, taken_at, revisited_at, first_remains, all_taken, all_revisited; among later neighbours: flag_read, list_read,
 -- later_below,
 -- first_unvisited, none_unvisited, first_unassigned, none_unassigned.
 use Rattle.std.proofs.Common.{zero, suc, ◌≡◌, ◌≢◌, ℕ, ◌+◌, ◌<◌, ◌≤◌, List, [], ◌∷◌, Bool, true, false, ◌&&◌, ◌||◌, not, Some, None, ap, sym, ◌∙◌, refl}
@@ -126,7 +126,7 @@ module _ (g : Fields) (h : IsGraph g) where
   point_is k = ap (λ ps. point_at ps k) h.points
 
   -- the flag of a place says whether its point is eliminated
-  taken_is : (k : ℕ) → k < length (places_in g.face) → not (remains g.remain k) ≡ is_in g.state.order (point_at (places_in g.face) k)
+  pub taken_is : (k : ℕ) → k < length (places_in g.face) → not (remains g.remain k) ≡ is_in g.state.order (point_at (places_in g.face) k)
   taken_is k lt = ap not (h.cells.remaining k (inside k lt)) ∙ not-not (is_in g.state.order (point_at g.points k)) ∙ ap (is_in g.state.order) (point_is k)
 
   taken_here : (k p : ℕ) (b : Bool) → k < length (places_in g.face) → point_at (places_in g.face) k ≡ p → b ≡ get_or g.remain k b
@@ -165,7 +165,7 @@ module _ (g : Fields) (h : IsGraph g) where
         → b ≡ is_in v.state.revisited p) is (λ listed lt e. revisited_here k p b listed lt e read) listed lt e
 
   -- z is not eliminated
-  first_remains : remains g.remain 0 ≡ true
+  pub first_remains : remains g.remain 0 ≡ true
   first_remains = sym (not-not (remains g.remain 0)) ∙ ap not (taken_is 0 (omega arith) ∙ none (is_in g.state.order 0) refl) where
     none : (b : Bool) → is_in g.state.order 0 ≡ b → b ≡ false
     none true t = (let o = h.together.owned 0 t in absurd (not_z g.face h.interface 0 o.0 o.1 refl))

@@ -47,3 +47,8 @@ returns-clause-done g c =
     let sweep = swept items v u (ended items Reverse v w u on end) c.in_ok-summaries.ensures.agree c.journal-before.ensures.replays
     c.journal-ended.ensures.replays in
     all_revisited u (none_stops u c.journal-ended.ensures.replays (still_done v u sweep c.requires)) c.in_ok-finish.ensures.done
+
+pub chosen-taken-requires-clause-agree : goal.chosen-taken-requires-clause-agree
+chosen-taken-requires-clause-agree g c =
+    subst (λ (ss : List Summary). AgreeWith ss c.in_ok-kept.kept.state) (sym c.as_slice.ensures.value)
+    (subst (λ (v : SharedView). AgreeWith c.in_ok-summaries.summaries.items v.state) (sym c.in_ok-kept.ensures) c.in_ok-summaries.ensures.agree)

@@ -1,8 +1,10 @@
 use Rattle.std.proofs.Common.{◌≡◌, ap, ◌∙◌, arith, length}
 use Rattle.std.proofs.lemmas.List.{take_all}
+use Rattle.elim_step.specs.Ranked.{key_at}
 use Rattle.shared_graph.specs.Graphs.{GraphView}
 use Rattle.shared_graph.specs.Histories.{unvisited_in}
 use Rattle.shared_graph.proofs.graphs.Histories.{copied, same_view}
+use Rattle.shared_graph.proofs.graphs.Relaying.{relay_begun}
 use Rattle.shared_graph.proofs.shared.Shared.copy.Goals as goal
 
 pub invariant_of-result : goal.invariant_of-result
@@ -19,6 +21,8 @@ invariant_of-result c =
     let room = c.loop-entry.invariant.room in (
       copied (record { face = i.graph.face; state = i.graph.state; journal = i.journal.items }) new c.loop-entry.journal.items graph whole c.self.invariant.0,
       omega (arith, c.unvisited.ensures, c.len.ensures, i.journal.ok.0),
+      relay_begun new.face new.state c.in_ok-ready.ready.size (key_at c.in_ok-ready.ready) c.in_ok-all.all.items c.in_ok-ready.ensures.size
+          c.in_ok-ready.ensures.keys c.in_ok-all.ensures,
     )
 
 pub returns : goal.returns

@@ -1,37 +1,26 @@
-use Rattle.std.proofs.Common.{◌≡◌, true, not, ap, sym, ◌∙◌, arith, subst, below_more, map, get_or}
-use Rattle.std.specs.Prelude.{is_some}
-use Rattle.stn_model.specs.declared.ids.PointId.{PointId}
-use Rattle.shared_graph.specs.declared.events.By.TheVariants.{Joiner}
-use Rattle.shared_graph.specs.declared.events.Event.TheVariants.{Revisit}
-use Rattle.shared_graph.specs.Interfaces.{IsInterface, points_of}
-use Rattle.shared_graph.specs.Refusals.{refusal}
+use Rattle.std.proofs.Common.{sym, subst}
+use Rattle.std.specs.Prelude.{IfNone}
+use Rattle.elim_step.specs.Ranked.{key_at}
+use Rattle.shared_graph.specs.Firsts.{IsLeastRevisit}
+use Rattle.shared_graph.specs.Histories.{SharedView}
+use Rattle.shared_graph.specs.Readiness.{IsShut}
 use Rattle.shared_graph.specs.States.{point_id}
-use Rattle.shared_graph.proofs.graphs.Offering.{least_offer, none_offered, nothing_there}
+use Rattle.shared_graph.proofs.graphs.Relaying.{least_ready, none_first}
 use Rattle.shared_graph.proofs.shared.Shared.least_revisit.Goals as goal
 
-pub loop-point-init : goal.loop-point-init
-loop-point-init c m low = absurd (omega arith)
+pub returns-in_err-place-clause-none : goal.returns-in_err-place-clause-none
+returns-in_err-place-clause-none c =
+    let i = c.self.inside in
+    let shut : IsShut c.args.self.now.face c.args.self.now.state =
+    subst (λ (v : SharedView). IsShut v.face v.state) c.self.view_is
+    (none_first i.graph.face c.self.invariant.0.interface i.graph.state (key_at i.ready) c.self.invariant.2.keys c.in_err-place.ensures) in
+    subst (λ o. IfNone o (IsShut c.args.self.now.face c.args.self.now.state)) (sym c.from_residual.ensures) shut
 
-pub returns-then-is_none-clause-some : goal.returns-then-is_none-clause-some
-returns-then-is_none-clause-some c =
-    let v = c.args.self.now in
-    let known : IsInterface v.face = subst IsInterface c.interface.ensures.face c.points-point-items.ensures.valid in
-    let same : map (λ (p : PointId). p.0) c.points-point-items.result.now ≡ points_of v.face =
-    c.points-point-items.ensures.points ∙ ap points_of c.interface.ensures.face in
-    let legal = sym c.may.ensures ∙ nothing_there c.may.result (c.is_none.ensures ∙ ap not c.if-is_none.true) in
-    least_offer v.face known c.points-point-items.result.now same v.state c.loop-point.point-index c.loop-point-test.true legal c.loop-point.invariant
-
-pub loop-point-preserved : goal.loop-point-preserved
-loop-point-preserved c =
-    let v = c.args.self.now in
-    below_more (λ m. is_some (refusal v.face v.state (record { by = Joiner; event = Revisit (get_or c.points-point-items.result.now m (point_id 0)) })) ≡ true)
-    c.loop-point.point-index c.loop-point.invariant (ap (λ o. is_some o) (sym c.may.ensures) ∙ (c.is_none.ensures ∙ ap not c.if-is_none.false))
-
-pub returns-clause-none : goal.returns-clause-none
-returns-clause-none c =
-    let v = c.args.self.now in
-    let known : IsInterface v.face = subst IsInterface c.interface.ensures.face c.points-point-items.ensures.valid in
-    let same : map (λ (p : PointId). p.0) c.points-point-items.result.now ≡ points_of v.face =
-    c.points-point-items.ensures.points ∙ ap points_of c.interface.ensures.face in
-    none_offered v.face known c.points-point-items.result.now same v.state
-    (λ m low. c.loop-point.invariant m (let end = c.loop-point-test.false in omega arith))
+pub returns-clause-some : goal.returns-clause-some
+returns-clause-some c =
+    let i = c.self.inside in
+    let least =
+    least_ready i.graph.face c.self.invariant.0.interface i.graph.state (key_at i.ready) c.self.invariant.2.keys c.in_ok-place.place
+    c.in_ok-place.ensures in
+    subst (λ (v : SharedView). IsLeastRevisit v.face v.state c.point_at.result) c.self.view_is
+    (subst (λ n. IsLeastRevisit i.graph.face i.graph.state (point_id n)) (sym c.point_at.ensures) least)
