@@ -6,6 +6,8 @@
 mod build;
 #[cfg(test)]
 mod orders;
+#[cfg(test)]
+mod replays;
 pub mod steps;
 #[cfg(test)]
 mod tables;

@@ -14,12 +14,12 @@ use std::sync::ledger::{Blank, Ledger};
 use std::test::Fail;
 use stn_model::{AgentId, Lean, Network, PointId};
 
-const ANN: AgentId = AgentId(0);
+pub const ANN: AgentId = AgentId(0);
 
-const BOB: AgentId = AgentId(1);
+pub const BOB: AgentId = AgentId(1);
 
 // An agent publishes.
-fn publish(agent: AgentId) -> Entry {
+pub fn publish(agent: AgentId) -> Entry {
     Entry {
         by: By::Agent(agent),
         event: Event::Publish { agent },
@@ -27,7 +27,7 @@ fn publish(agent: AgentId) -> Entry {
 }
 
 // An agent eliminates a point.
-fn eliminate(agent: AgentId, point: u32) -> Entry {
+pub fn eliminate(agent: AgentId, point: u32) -> Entry {
     Entry {
         by: By::Agent(agent),
         event: Event::Eliminate {
@@ -47,7 +47,7 @@ fn revisit(point: u32) -> Entry {
 }
 
 // The summaries of a network without an own conflict.
-fn told(alloc: Global, net: &Network) -> Result<Vec<Summary>, Fail> {
+pub fn told(alloc: Global, net: &Network) -> Result<Vec<Summary>, Fail> {
     match summaries_of(alloc, net)? {
         Some(summaries) => Ok(summaries),
         None => Err(Fail::new("an own conflict")),
@@ -87,7 +87,7 @@ fn tries<L: Ledger>(
 }
 
 // The same on the handover.
-fn hands_over(
+pub fn hands_over(
     rt: &impl Abort,
     alloc: Global,
     entries: &[Entry],
@@ -158,7 +158,7 @@ fn weights_go_through_eliminated_points(rt: HostRuntime) -> Result<(), Fail> {
 }
 
 // Three agents with one point each, in a ring whose bounds sum to -1.
-fn ring(alloc: Global) -> Result<Network, Fail> {
+pub fn ring(alloc: Global) -> Result<Network, Fail> {
     let mut net = Network::new(alloc, 100)?;
     for name in [b"x".as_slice(), b"y".as_slice(), b"w".as_slice()] {
         net.add_agent(alloc, name, Lean::Early)?;

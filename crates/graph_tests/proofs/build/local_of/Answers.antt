@@ -1,4 +1,4 @@
-use Rattle.std.proofs.Common.{◌≡◌, ap, sym, ◌∙◌}
+use Rattle.std.proofs.Common.{ap, sym, ◌∙◌}
 use Rattle.private_elim.specs.Locals.{LocalView, local_of}
 use Rattle.private_elim.proofs.locals.LocalFacts.{numbered_of_net}
 use Rattle.graph_tests.proofs.build.local_of.Goals as goal
