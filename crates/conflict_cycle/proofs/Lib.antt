@@ -4,3 +4,13 @@ pub mod AgentLegs
 pub mod Belonging
 pub mod Stops
 pub mod ReducedParts
+pub mod PartLists
+pub mod LeastBounds
+pub mod GraphFinals
+pub mod HiddenPaths
+pub mod LaidParts
+pub mod LaidOrders
+pub mod PrivatePairs
+pub mod SharedPairs
+pub mod PartBounds
+pub mod MadeParts

@@ -1,7 +1,7 @@
--- Reduced parts of agents, in turn, and the summaries that they tell: AreReducedBelow, reduced_none, reduced_more, reduced_all, TellBelow, tell_none,
--- tell_more, summaries_fit, parts_published.
+-- Reduced parts of agents, in turn, and the summaries that they tell: item_is, all_taken, read_pushed, AreReducedBelow, reduced_none, reduced_more,
+-- reduced_all, told_by, TellBelow, tell_none, tell_more, summaries_fit, parts_published.
 use Rattle.std.proofs.Common.{zero, suc, ◌≡◌, ℕ, ◌+◌, ◌-◌, ◌<◌, ◌≤◌, List, [], ◌∷◌, ◌++◌, Option, Some, None, map, take, length, get_or, length-append}
-use Rattle.std.proofs.Common.{ap, sym, ◌∙◌, refl, arith, subst, inl, inr}
+use Rattle.std.proofs.Common.{◌⊎◌, ap, sym, ◌∙◌, refl, arith, subst, inl, inr}
 use Rattle.std.specs.Prelude.{slice_get}
 use Rattle.std.proofs.lemmas.Bool.{cases_lt}
 use Rattle.std.proofs.lemmas.List.{length-map, get_or-map, get_or_past, map_push, take_more, get_or_append_left, get_or-append_right}
@@ -24,13 +24,34 @@ pub record AreReducedBelow (net : Net) (n : ℕ) (reduced : List ReducedView) : 
   pub each : (a : ℕ) (r : ReducedView) → slice_get reduced a ≡ Some r → r.local ≡ local_of net a
 
 -- an item is the one that is read there
-item_is : {X : Type 0} (xs : List X) (a : ℕ) (x : X) → slice_get xs a ≡ Some x → (a < length xs) × (get_or xs a x ≡ x)
+pub item_is : {X : Type 0} (xs : List X) (a : ℕ) (x : X) → slice_get xs a ≡ Some x → (a < length xs) × (get_or xs a x ≡ x)
 item_is xs a x h =
     let low = slice_get_within xs a x h in
     let both : Some (get_or xs a x) ≡ Some x = sym (slice_get-get_or xs a x low) ∙ h in
     (low, some_is (get_or xs a x) x both) where
       some_is : {X : Type 0} (x y : X) → Some x ≡ Some y → x ≡ y
       some_is x y e = cc
+
+-- the first n items are all of them
+pub all_taken : {X : Type 0} (n : ℕ) (xs : List X) → length xs ≤ n → take n xs ≡ xs
+all_taken zero [] low = refl
+all_taken (suc n) [] low = refl
+all_taken zero (x ∷ xs) low = absurd (omega arith)
+all_taken (suc n) (x ∷ xs) low = ap (λ ys. x ∷ ys) (all_taken n xs (omega arith))
+
+-- an item of a list with one more is one of the list, or the last
+pub read_pushed : {X : Type 0} (old : List X) (x y : X) (a : ℕ) → slice_get (old ++ x ∷ []) a ≡ Some y
+    → (slice_get old a ≡ Some y) ⊎ ((a ≡ length old) × (x ≡ y))
+read_pushed old x y a there =
+    let read = item_is (old ++ x ∷ []) a y there in
+    let many = length-append old (x ∷ []) in
+    elim (cases_lt a (length old)) [
+      | inl low ↦ inl (slice_get-get_or old a y low ∙ ap (λ z. Some z) (sym (get_or_append_left old (x ∷ []) y a low) ∙ read.1))
+      | inr high ↦
+          (let inside = read.0 in
+          let zeroth : a - length old ≡ 0 = omega arith in
+          inr (omega arith, sym (get_or-append_right old (x ∷ []) (length old) a y refl high ∙ ap (λ k. get_or (x ∷ []) k y) zeroth) ∙ read.1))
+    ]
 
 module _ (net : Net) where
   pub reduced_none : AreReducedBelow net 0 []
@@ -47,22 +68,12 @@ module _ (net : Net) where
         each = each;
       }) where
         each : (a : ℕ) (x : ReducedView) → slice_get (old ++ r ∷ []) a ≡ Some x → x.local ≡ local_of net a
-        each a x there =
-            let read = item_is (old ++ r ∷ []) a x there in
-            let many = length-append old (r ∷ []) in
-            let len = h.len in
-            elim (cases_lt a (length old)) [
-              | inl low ↦
-                  h.each a x (slice_get-get_or old a x low
-                  ∙ ap (λ (y : ReducedView). Some y) (sym (get_or_append_left old (r ∷ []) x a low) ∙ read.1))
-              | inr high ↦
-                  (let in_all = read.0 in
-                  let here : a ≡ n = omega arith in
-                  let zeroth : a - length old ≡ 0 = omega arith in
-                  let last : r ≡ x = sym (get_or-append_right old (r ∷ []) (length old) a x refl high
-                  ∙ ap (λ k. get_or (r ∷ []) k x) zeroth) ∙ read.1 in
-                  ap (λ (y : ReducedView). y.local) (sym last) ∙ local ∙ ap (local_of net) (sym here))
-            ]
+        each a x there = elim (read_pushed old r x a there) [
+          | inl before ↦ h.each a x before
+          | inr last ↦
+              (let here : a ≡ n = last.0 ∙ h.len in
+              ap (λ (y : ReducedView). y.local) (sym last.1) ∙ local ∙ ap (local_of net) (sym here))
+        ]
 
   pub reduced_all : (n : ℕ) (reduced : List ReducedView) → n ≡ length net.agents → AreReducedBelow net n reduced → AreReducedOf net reduced
   reduced_all n reduced is h = record { one_each = h.len ∙ is; each = h.each }
@@ -111,14 +122,8 @@ module _ (net : Net) (reduced : List ReducedView) where
   pub summaries_fit : (n : ℕ) (summaries : List Summary) → length reduced ≤ n → TellBelow net reduced n summaries
       → (summaries ≡ told_by reduced) × AreFitting (interface_of net) summaries
   summaries_fit n summaries all h =
-      let is : summaries ≡ told_by reduced = h.told ∙ ap told_by (take-past n reduced all) in
+      let is : summaries ≡ told_by reduced = h.told ∙ ap told_by (all_taken n reduced all) in
       (is, subst (AreFitting (interface_of net)) (sym is) (λ a. fits a)) where
-        take-past : {X : Type 0} (k : ℕ) (xs : List X) → length xs ≤ k → take k xs ≡ xs
-        take-past zero [] low = refl
-        take-past (suc k) [] low = refl
-        take-past zero (x ∷ xs) low = absurd (omega arith)
-        take-past (suc k) (x ∷ xs) low = ap (λ ys. x ∷ ys) (take-past k xs (omega arith))
-
         fits : (a : ℕ) → IsFitting (interface_of net) a (summary_of (told_by reduced) a)
         fits a = elim (cases_lt a (length reduced)) [
           | inl low ↦ at a (slice_get reduced a) refl low

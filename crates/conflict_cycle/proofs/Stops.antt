@@ -1,4 +1,5 @@
--- What a stop shows: two forward weights that sum below 0, and so walks with such weights are closed and negative: Opposite, opposite_of, closed_told.
+-- What a stop shows: two forward weights that sum below 0, and so walks with such weights are closed and negative: Opposite,
+-- opposite_of, opposite_over, is_some_there, is_some_back, closed_told.
 use Rattle.std.proofs.Common.{◌≡◌, ◌≢◌, ℕ, List, [], ◌∷◌, true, ◌&&◌, not, Option, Some, None, ap, sym, ◌∙◌, refl, arith, subst}
 use Rattle.std.specs.Prelude.{ℤ, pos, ◌+ℤ◌, ◌<ℤ◌, ◌==◌, int_lt, is_some, IfSome}
 use Rattle.std.proofs.lemmas.Bool.{and_parts, not-true, false≢true}

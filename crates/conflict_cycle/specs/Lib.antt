@@ -1,1 +1,5 @@
 pub mod Belongs
+pub mod PartOrders
+pub mod SharedPairs
+pub mod PrivatePairs
+pub mod Parts

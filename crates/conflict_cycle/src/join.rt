@@ -116,7 +116,8 @@ fn add_walk(
     requires externals { AreExternalNumbers whole.net externals.now }
     requires apart { from.0 ≢ to.0 }
     requires there { is_some (forward (interface_of whole.net) whole.state from.0 to.0) ≡ true }
-    ensures { OnOk result (IfSome (forward (interface_of whole.net) whole.state from.0 to.0) (λ w. IsLegWalk whole.net from.0 to.0 w walk.old.items walk.new.items)) }
+    ensures { OnOk result (IfSome (forward (interface_of whole.net) whole.state from.0 to.0)
+        (λ w. IsLegWalk whole.net from.0 to.0 w walk.old.items walk.new.items)) }
 {
     let legs = shared.legs(alloc, from, to)?;
     for &leg in legs.as_slice() {

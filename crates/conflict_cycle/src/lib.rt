@@ -2,8 +2,11 @@
 #![tactic(auto)]
 
 pub mod join;
+pub mod laws;
+pub mod parts;
 
 pub use join::join_cycle;
+pub use parts::Parts;
 
 #[cfg(test)]
 mod tests;

@@ -1,16 +1,25 @@
-//! Cycles that stops show on a ring of three agents.
-ghost use Rattle.std.specs.Prelude.{◌≡◌, ◌<◌, IfOk, length, map};
+//! Cycles that stops show on a ring of three agents, and least bounds of the handover.
+ghost use Rattle.std.specs.Prelude.{◌≡◌, ℕ, ◌<◌, [], IfOk, IfSome, length, map, slice_get, Some};
 ghost use Rattle.stn_model.specs.Valid.{IsNetwork};
 ghost use Rattle.private_elim.specs.Locals.{local_of};
 ghost use Rattle.shared_graph.specs.Histories.{AreFitting};
 ghost use Rattle.shared_graph.specs.Interfaces.{interface_of};
-ghost use Rattle.conflict_cycle.specs.Belongs.{AreReducedOf};
+ghost use Rattle.private_elim.specs.Backs.{BoundsView};
+ghost use Rattle.private_elim.specs.ReducedViews.{ReducedView};
+ghost use Rattle.shared_graph.specs.declared.events.Phase.TheVariants.{Order, Reverse};
+ghost use Rattle.shared_graph.specs.Journals.{IsDone, StandsFor};
+ghost use Rattle.shared_graph.specs.Weights.{final};
+ghost use Rattle.conflict_cycle.specs.Belongs.{AreReducedOf, ArePublishedOf};
+ghost use Rattle.conflict_cycle.specs.Parts.{AreFinalsOf, IsBackOf};
 
 use crate::join_cycle;
-use elim_step::{Picker, Summary};
-use private_elim::{Local, PrivateOutcome, Reduced, eliminate_private};
+use crate::parts::{Parts, know_reduced};
+use elim_step::{Picker, Summary, SummaryEntry};
+use private_elim::{Local, PrivateBounds, PrivateOutcome, Reduced, back_sweep, eliminate_private};
+use sample_nets::handover;
 use shared_graph::{Interface, Phase, Shared};
 use std::alloc::Global;
+use std::process::Abort;
 use std::test::Fail;
 use stn_model::{AgentId, Lean, Network, PointId};
 use stn_walk::Walk;
@@ -111,5 +120,126 @@ fn rings_show_cycles(rt: HostRuntime) -> Result<(), Fail> {
             Some(cycle) => assert_eq!(rt; cycle.arcs(), wanted),
         }
     }
+    Ok(())
+}
+
+// The graph after all of the joiner's steps; it fails where they come to a stop.
+fn revisited(alloc: Global, net: &Network, reduced: &[Reduced]) -> Result<Shared, Fail>
+    requires valid { IsNetwork net.now }
+    requires reduced { AreReducedOf net.now reduced.now }
+    ensures stands { IfOk result (λ s. StandsFor net.now s) }
+    ensures published { IfOk result (λ s. ArePublishedOf reduced.now s.state) }
+    ensures ordered { IfOk result (λ s. IsDone s.face s.state Order) }
+    ensures visited { IfOk result (λ s. IsDone s.face s.state Reverse) }
+    ensures untimed { IfOk result (λ s. s.state.assigned ≡ []) }
+{
+    know_reduced(reduced);
+    let summaries = summaries_of(alloc, net, reduced)?;
+    let mut shared = Shared::start(alloc, Interface::of(alloc, net)?)?;
+    shared.finish(alloc, summaries.as_slice(), Phase::Order)?;
+    if shared.cycle().is_some() {
+        return Err(Fail::new("a stop"));
+    }
+    shared.finish(alloc, summaries.as_slice(), Phase::Reverse)?;
+    // With the journal comes that it replays.
+    let _journal = shared.journal();
+    Ok(shared)
+}
+
+// The entry of the same pair with its final bound.
+fn final_entry(shared: &Shared, told: SummaryEntry) -> Option<SummaryEntry>
+    ensures { IfSome result (λ e. (e.from ≡ told.from) × (e.to ≡ told.to) × (Some e.weight ≡ final shared.now.face shared.now.state told.from.0 told.to.0)) }
+{
+    let Some(weight) = shared.final_bound(told.from, told.to) else {
+        return None;
+    };
+    Some(SummaryEntry {
+        from: told.from,
+        to: told.to,
+        weight,
+    })
+}
+
+// The final bounds of a summary's pairs.
+fn finals_of(alloc: Global, shared: &Shared, summary: &Summary) -> Result<Summary, Fail>
+    ensures { IfOk result (λ f. AreFinalsOf shared.now.face shared.now.state summary.now f) }
+{
+    let mut finals = Vec::new(alloc);
+    for &told in summary.entries() {
+        let Some(entry) = final_entry(shared, told) else {
+            return Err(Fail::new("no final bound"));
+        };
+        finals.push(entry)?;
+    }
+    match Summary::new(finals) {
+        Some(finals) => Ok(finals),
+        None => Err(Fail::new("no summary")),
+    }
+}
+
+// The back sweep of each part on its final bounds.
+fn swept(alloc: Global, shared: &Shared, reduced: &[Reduced]) -> Result<Vec<PrivateBounds>, Fail>
+    ensures one_each { IfOk result (λ v. length v.items ≡ length reduced.now) }
+    ensures back { IfOk result (λ v. (a : ℕ) (r : ReducedView) (b : BoundsView) → slice_get reduced.now a ≡ Some r
+        → slice_get v.items a ≡ Some b → IsBackOf shared.now.face shared.now.state r b) }
+{
+    let mut all = Vec::new(alloc);
+    for part in reduced {
+        let finals = finals_of(alloc, shared, part.summary())?;
+        all.push(back_sweep(alloc, part, &finals)?)?;
+    }
+    Ok(all)
+}
+
+// All parts of a network that has a schedule.
+fn parts_of(alloc: Global, net: &Network) -> Result<Parts, Fail> {
+    let reduced = all_reduced(alloc, net)?;
+    let shared = revisited(alloc, net, reduced.as_slice())?;
+    let bounds = swept(alloc, &shared, reduced.as_slice())?;
+    Ok(Parts::new(net, reduced, shared, bounds))
+}
+
+// The bounds of the handover, where private points are joined with their own agent's alone.
+fn has_bounds(rt: &impl Abort, parts: &Parts) {
+    let rows = [
+        (0, 1, Some(20)),
+        (1, 0, Some(0)),
+        (1, 2, Some(40)),
+        (2, 1, Some(-30)),
+        (0, 2, Some(60)),
+        (2, 0, Some(-30)),
+        (2, 3, Some(5)),
+        (3, 2, Some(0)),
+        (0, 3, Some(65)),
+        (3, 4, Some(20)),
+        (4, 0, Some(-40)),
+        (0, 4, Some(85)),
+        (1, 3, None),
+        (4, 2, None),
+        (1, 4, None),
+        (2, 2, None),
+        (0, 7, None),
+    ];
+    for (i, j, wanted) in rows {
+        assert_eq!(rt;
+            parts.bound(PointId(i), PointId(j)),
+            wanted,
+            "from {i} to {j}"
+        );
+    }
+}
+
+#[test]
+fn parts_have_least_bounds(rt: HostRuntime) -> Result<(), Fail> {
+    let net = handover(rt.alloc())?;
+    let parts = parts_of(rt.alloc(), &net)?;
+    has_bounds(&rt, &parts);
+    let copy = parts.copy(rt.alloc())?;
+    has_bounds(&rt, &copy);
+    let order = copy.order(rt.alloc())?;
+    let wanted = [PointId(1), PointId(4), PointId(2), PointId(3), PointId(0)];
+    assert_eq!(rt; order.as_slice(), wanted.as_slice());
+    assert_eq!(rt; copy.reduced().len(), 2);
+    assert_eq!(rt; copy.shared().journal().len(), 6);
     Ok(())
 }

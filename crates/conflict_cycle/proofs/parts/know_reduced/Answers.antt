@@ -1,0 +1,10 @@
+use Rattle.conflict_cycle.proofs.PartLists.{known_more, known_all}
+use Rattle.conflict_cycle.proofs.parts.know_reduced.Goals as goal
+
+pub loop-part-preserved : goal.loop-part-preserved
+loop-part-preserved c =
+    known_more c.args.reduced.now c.loop-part.part-index c.part-item.result c.loop-part-test.true c.part-item.is c.loop-part.invariant
+    c.summary-summary.ensures.reduced
+
+pub returns : goal.returns
+returns c = known_all c.args.reduced.now c.loop-part.part-index c.loop-part-test.false c.loop-part.invariant
