@@ -1,6 +1,6 @@
 -- The reduced parts of all agents, gathered one by one from their workers' results: IsGathering, none_gathered, one_more, first_conflict, few_parts, all_gathered;
 -- and what they are: gathered_parts, gathered_conflict.
-use Rattle.std.proofs.Common.{zero, suc, ◌≡◌, ℕ, ◌+◌, ◌<◌, List, [], ◌∷◌, ◌++◌, true, length, map, get_or, Some, ap, sym, ◌∙◌}
+use Rattle.std.proofs.Common.{zero, suc, ◌≡◌, ℕ, ◌<◌, List, [], ◌∷◌, ◌++◌, true, length, map, get_or, Some, ap, sym, ◌∙◌}
 use Rattle.std.proofs.Common.{refl, arith, subst, append_assoc, append-nil}
 use Rattle.std.specs.Prelude.{slice_get, is_some}
 use Rattle.std.proofs.lemmas.List.{length-map, map-append}

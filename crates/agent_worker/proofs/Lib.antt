@@ -5,3 +5,5 @@ pub mod Telling
 pub mod Workings
 pub mod Comings
 pub mod LocalLists
+pub mod FinalEntries
+pub mod BackParts

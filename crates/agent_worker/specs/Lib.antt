@@ -1,3 +1,4 @@
 pub mod Works
 pub mod Phases
 pub mod Forwards
+pub mod Backs
