@@ -1,4 +1,4 @@
--- Records of a solve: eliminated_in, joined_order, IsPrivateOrder, IsLegalSection, ArePickedOrders, JoinedView, IsJoined, private_of, orders_of, SolvedBy.
+-- Records of a solve: eliminated_in, joined_order, IsPrivateOrder, IsLegalSection, ArePickedOrders, JoinedView, IsJoined, AreJoinedParts, private_of, orders_of, SolvedBy.
 use Rattle.std.specs.Prelude.{◌≡◌, ℕ, ◌<◌, List, [], ◌∷◌, ◌++◌, true, map, length, reverse, slice_index_or, Some, None}
 use Rattle.std.specs.List.{AllByRecursion, flat_map, list_all}
 use Rattle.stn_model.specs.declared.ids.PointId.{PointId}
@@ -22,6 +22,8 @@ use Rattle.shared_graph.specs.Replays.{AreRight, replay}
 use Rattle.shared_graph.specs.States.{State, start, point_id}
 use Rattle.elim_journal.specs.Sections.{SectionView}
 use Rattle.conflict_cycle.specs.Belongs.{AreReducedOf}
+use Rattle.conflict_cycle.specs.PartOrders.{order_of}
+use Rattle.conflict_cycle.specs.Parts.{PartsView, BelongsTo}
 
 -- the points that entries eliminate, in their order
 abbrev pub points_eliminated : Event → List PointId
@@ -86,6 +88,11 @@ pub record IsJoined (j : JoinedView) : Type 0 where
   pub network : IsNetwork j.network
   pub consistent : IsConsistent (point_count j.network) (arcs_of j.network)
   pub order : j.order ≡ joined_order j.section
+
+-- the parts belong to the network, and its order is theirs
+pub record AreJoinedParts (network : Net) (order : List PointId) (parts : PartsView) : Type 0 where
+  pub belongs : BelongsTo network parts
+  pub laid : map (λ p. p.0) order ≡ order_of parts.reduced parts.shared.state
 
 -- the private points of reduced parts, in their orders
 abbrev pub private_of : List ReducedView → List ℕ

@@ -1,7 +1,11 @@
 //! A network with the record of how it was solved.
-ghost use Rattle.std.specs.Prelude.{◌≡◌};
+ghost use Rattle.std.specs.Prelude.{◌≡◌, ◌↔◌, true, map, IfSome, is_some};
+ghost use Rattle.stn_model.specs.Joined.{IsJoined as IsJoinedPair};
+ghost use Rattle.stn_model.specs.Net.{arcs_of, point_count};
+ghost use Rattle.stn_model.specs.Schedules.{IsLeastBound};
 ghost use Rattle.joined_answer.specs.Joins.{IsJoined};
 
+use conflict_cycle::Parts;
 use elim_journal::Section;
 use std::marker::Model;
 use stn_model::{Network, PointId};
@@ -12,16 +16,18 @@ pub struct Joined {
     pub(crate) network: Network,
     pub(crate) order: Vec<PointId>,
     pub(crate) section: Section,
+    /// What all agents and the shared graph know of the network.
+    pub(crate) parts: Parts,
 }
 
 impl Model for Joined {
-    ghost use Rattle.joined_answer.specs.Joins.{JoinedView, IsJoined};
+    ghost use Rattle.joined_answer.specs.Joins.{JoinedView, IsJoined, AreJoinedParts};
 
     ghost Value = { JoinedView };
 
     ghost view = { λ j. record { network = j.network; order = j.order.items; section = j.section } };
 
-    ghost invariant = { λ j. IsJoined (record { network = j.network; order = j.order.items; section = j.section }) };
+    ghost invariant = { λ j. IsJoined (record { network = j.network; order = j.order.items; section = j.section }) × AreJoinedParts j.network j.order.items j.parts };
 }
 
 impl Joined {
@@ -46,5 +52,15 @@ impl Joined {
         ensures { result.now ≡ self.now.section }
     {
         &self.section
+    }
+
+    /// The least bound on `time(j) - time(i)`, in the network's unit of time. None exactly where the points are equal or not joined: two different
+    /// points are joined where arcs, taken without direction, have a path between them whose inner points all come before both in the order. Takes no
+    /// memory, and a look at each agent's part.
+    pub fn bound(&self, i: PointId, j: PointId) -> Option<i128>
+        ensures joined { (is_some result ≡ true) ↔ IsJoinedPair (arcs_of self.now.network) (map (λ p. p.0) self.now.order) i.0 j.0 }
+        ensures least { IfSome result (λ b. IsLeastBound (point_count self.now.network) (arcs_of self.now.network) i.0 j.0 b) }
+    {
+        self.parts.bound(i, j)
     }
 }

@@ -5,18 +5,23 @@ ghost use Rattle.stn_model.specs.Schedules.{IsConsistent};
 ghost use Rattle.stn_model.specs.Walks.{IsNegativeCycle, IsNormal};
 ghost use Rattle.agent_worker.specs.Forwards.{ArePartsOf};
 ghost use Rattle.conflict_cycle.specs.Belongs.{AreReducedOf};
+ghost use Rattle.conflict_cycle.specs.PartOrders.{order_of};
+ghost use Rattle.conflict_cycle.specs.Parts.{BelongsTo};
 ghost use Rattle.private_elim.specs.ReducedViews.{ReducedView, IsReduced};
 ghost use Rattle.shared_graph.specs.declared.events.Phase.TheVariants.{Order, Reverse};
 ghost use Rattle.shared_graph.specs.Interfaces.{interface_of};
 ghost use Rattle.shared_graph.specs.Journals.{AgreeWith, IsDone, StandsFor};
-ghost use Rattle.joined_answer.specs.Joins.{SolvedBy, IsLegalSection, ArePrivateOrders, orders_of, private_of};
+ghost use Rattle.joined_answer.specs.Joins.{SolvedBy, IsJoined, IsLegalSection, ArePrivateOrders, orders_of, private_of};
 
 use crate::joined::Joined;
-use conflict_cycle::join_cycle;
+use agent_worker::back_phase;
+use conflict_cycle::{Parts, join_cycle};
 use elim_journal::Section;
 use private_elim::{Local, Reduced};
 use shared_graph::{Entry, Event, Shared};
 use std::alloc::Global;
+use std::sync::Wait;
+use std::thread::Threads;
 use stn_model::{AgentId, Network, OutOfMemory, PointId};
 use stn_walk::Walk;
 
@@ -51,30 +56,61 @@ pub fn shown(
     join_cycle(alloc, net, shared, reduced, cycle)
 }
 
-/// The answer that reduced parts and a shared graph give in which all points are revisited.
-pub fn join(
+/// The answer that reduced parts and a shared graph give in which all points are revisited: each agent sweeps back over its private points.
+pub fn joined_of<R: Threads + Wait + Sync>(
+    rt: &R,
+    alloc: Global,
+    net: &Network,
+    reduced: Vec<Reduced>,
+    shared: Shared,
+) -> Result<Joined, OutOfMemory>
+    requires solved { SolvedBy net.now reduced.items shared }
+    ensures network { IfOk result (λ j. j.network ≡ net.now) }
+    ensures orders { IfOk result (λ j. ArePrivateOrders net.now (map (λ p. p.0) j.section.private) (orders_of reduced.items)) }
+    ensures section { IfOk result (λ j. IsLegalSection net.now j.section) }
+{
+    let bounds = back_phase(rt, alloc, reduced.as_slice(), &shared)?;
+    let parts = Parts::new(net, reduced, shared, bounds);
+    join(alloc, net, parts)
+}
+
+// The answer that parts of the network give.
+fn join(alloc: Global, net: &Network, parts: Parts) -> Result<Joined, OutOfMemory>
+    requires solved { SolvedBy net.now parts.reduced parts.shared }
+    requires belongs { BelongsTo net.now parts }
+    ensures network { IfOk result (λ j. j.network ≡ net.now) }
+    ensures orders { IfOk result (λ j. ArePrivateOrders net.now (map (λ p. p.0) j.section.private) (orders_of parts.reduced)) }
+    ensures section { IfOk result (λ j. IsLegalSection net.now j.section) }
+{
+    let (network, order, section) = record_of(alloc, net, parts.reduced(), parts.shared())?;
+    Ok(Joined {
+        network,
+        order,
+        section,
+        parts,
+    })
+}
+
+// The network, the order of all points, and the record of how they were eliminated.
+fn record_of(
     alloc: Global,
     net: &Network,
     reduced: &[Reduced],
     shared: &Shared,
-) -> Result<Joined, OutOfMemory>
+) -> Result<(Network, Vec<PointId>, Section), OutOfMemory>
     requires solved { SolvedBy net.now reduced.now shared.now }
-    ensures network { IfOk result (λ j. j.network ≡ net.now) }
-    ensures private { IfOk result (λ j. map (λ p. p.0) j.section.private ≡ private_of reduced.now) }
-    ensures entries { IfOk result (λ j. j.section.entries ≡ shared.now.journal) }
-    ensures orders { IfOk result (λ j. ArePrivateOrders net.now (map (λ p. p.0) j.section.private) (orders_of reduced.now)) }
-    ensures section { IfOk result (λ j. IsLegalSection net.now j.section) }
+    ensures network { IfOk result (λ r. r.0 ≡ net.now) }
+    ensures orders { IfOk result (λ r. ArePrivateOrders net.now (map (λ p. p.0) r.2.private) (orders_of reduced.now)) }
+    ensures section { IfOk result (λ r. IsLegalSection net.now r.2) }
+    ensures joined { IfOk result (λ r. IsJoined (record { network = r.0; order = r.1.items; section = r.2 })) }
+    ensures order { IfOk result (λ r. map (λ p. p.0) r.1.items ≡ order_of reduced.now shared.now.state) }
 {
     let network = net.copy(alloc)?;
     let private = private_points(alloc, reduced)?;
     let entries = Vec::from_slice(alloc, shared.journal())?;
     let order = joined_order(alloc, private.as_slice(), shared.order())?;
     let section = Section::new(private, entries);
-    Ok(Joined {
-        network,
-        order,
-        section,
-    })
+    Ok((network, order, section))
 }
 
 // The private points in their order, agent by agent.

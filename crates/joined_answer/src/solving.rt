@@ -7,7 +7,7 @@ ghost use Rattle.joined_answer.specs.Answers.{is_inconsistent, IfInconsistent, I
 ghost use Rattle.joined_answer.specs.Joins.{IsLegalSection, ArePickedOrders};
 
 use crate::joined::Joined;
-use crate::parts::{join, locals_of, shown};
+use crate::parts::{joined_of, locals_of, shown};
 use agent_worker::{Forward, Gate, forward_phase, reverse_phase};
 use elim_step::Picker;
 use shared_graph::Interface;
@@ -27,7 +27,8 @@ pub enum Answer {
 }
 
 /// Solves a network: each agent's worker eliminates the agent's private points in an order that the picker allows, and then the workers eliminate and
-/// revisit the shared points of one graph, one in each hold of its lock; the caller does what they leave. Inconsistent exactly where no schedule
+/// revisit the shared points of one graph, one in each hold of its lock; the caller does what they leave; at last each agent sweeps back over its
+/// private points. Inconsistent exactly where no schedule
 /// satisfies the network. OutOfMemory where memory runs out, here or in a worker.
 pub fn solve<R: Threads + Wait + Sync, G: Gate + Sync>(
     rt: &R,
@@ -54,7 +55,7 @@ pub fn solve<R: Threads + Wait + Sync, G: Gate + Sync>(
         }
         Forward::Whole { reduced, shared } => {
             let swept = reverse_phase(rt, alloc, shared, gate)?;
-            let joined = join(alloc, net, reduced.as_slice(), &swept)?;
+            let joined = joined_of(rt, alloc, net, reduced, swept)?;
             Ok(Answer::Consistent(joined))
         }
     }

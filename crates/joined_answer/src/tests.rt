@@ -37,6 +37,9 @@ fn a_consistent_network_has_its_record(rt: HostRuntime) -> Result<(), Fail> {
     assert_eq!(rt; section.entries().len(), 6);
     assert_eq!(rt; joined.order().len(), 5);
     assert_eq!(rt; joined.order()[4], PointId(0));
+    assert_eq!(rt; joined.bound(PointId(0), PointId(3)), Some(65));
+    assert_eq!(rt; joined.bound(PointId(4), PointId(0)), Some(-40));
+    assert_eq!(rt; joined.bound(PointId(1), PointId(3)), None);
     Ok(())
 }
 

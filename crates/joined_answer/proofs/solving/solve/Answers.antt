@@ -7,8 +7,6 @@ use Rattle.shared_graph.specs.Journals.{AgreeWith, IsDone, StandsFor, is_step_of
 use Rattle.conflict_cycle.specs.Belongs.{AreReducedOf}
 use Rattle.agent_worker.specs.Forwards.{OfParts, is_stopped, is_whole}
 use Rattle.agent_worker.specs.Works.{AreReducedFrom}
-use Rattle.joined_answer.specs.Joins.{ArePrivateOrders, SolvedBy, orders_of}
-use Rattle.joined_answer.proofs.Orders.{numbers}
 use Rattle.joined_answer.proofs.Sections.{picked_orders}
 use Rattle.joined_answer.proofs.Solves.{parts_of, reduced_of, solved, stopped_parts, whole_parts, whole_done}
 use Rattle.joined_answer.proofs.solving.solve.Goals as goal
@@ -38,8 +36,8 @@ returns-in-Stopped-clause-inconsistent g c =
     let parts = parts_of net face locals c.in_ok-locals.locals.items c.in_ok-interface.ensures.whole c.as_slice.ensures.value c.in_ok-locals.ensures in
     (λ is. ((c.in_ok-forward.ensures.stopped net parts).0 (ap is_stopped c.in-Stopped.is)).1, λ none. refl)
 
-pub join-requires : goal.join-requires
-join-requires g c =
+pub joined_of-requires-clause-solved : goal.joined_of-requires-clause-solved
+joined_of-requires-clause-solved g c κs within =
     let net = c.args.net.now in
     let face = c.in_ok-interface.interface in
     let locals = c.as_slice.result.now in
@@ -55,11 +53,8 @@ join-requires g c =
     let stands = whole_parts (λ reduced shared. OfParts face locals (λ net. StandsFor net shared)) f r v is told.stands in
     let done = whole_done (λ reduced shared. IsDone shared.face shared.state Order) f r v is told.done in
     let steps = whole_parts (λ reduced shared. list_all (λ e. is_step_of Order e.event) shared.journal ≡ true) f r v is told.steps in
-    record {
-      solved = subst (λ (rs : List ReducedView). SolvedBy net rs w) (sym c.as_slice-in-Whole.ensures.value)
-          (solved _ net face locals parts r.items from v w ((told.whole net parts).0 (ap is_whole is)) agree (stands net parts) done steps
-          c.in_ok-swept-in-Whole.ensures.swept c.in_ok-swept-in-Whole.ensures.done);
-    }
+    solved _ net face locals parts r.items from v w ((told.whole net parts).0 (ap is_whole is)) agree (stands net parts) done steps
+    c.in_ok-swept-in-Whole.ensures.swept c.in_ok-swept-in-Whole.ensures.done
 
 pub returns-clause-inconsistent : goal.returns-clause-inconsistent
 returns-clause-inconsistent g c =
@@ -79,6 +74,4 @@ returns-clause-picked g c =
     let r = c.in-Whole.reduced in
     let from = whole_parts (λ reduced shared. AreReducedFrom _ locals reduced) f r c.in-Whole.shared c.in-Whole.is c.in_ok-forward.ensures.reduced in
     let section = c.in_ok-joined-in-Whole.joined.section in
-    picked_orders _ net face locals r.items section parts from
-    (subst (λ (rs : List ReducedView). ArePrivateOrders net (numbers section.private) (orders_of rs)) c.as_slice-in-Whole.ensures.value
-    c.in_ok-joined-in-Whole.ensures.orders)
+    picked_orders _ net face locals r.items section parts from c.in_ok-joined-in-Whole.ensures.orders
