@@ -1,3 +1,5 @@
+mod CommandTexts
+mod OriginBounds
 mod Answering
 mod Digits
 mod JoinedPoints

@@ -1,5 +1,5 @@
 -- What is said of a network that was solved.
-use Rattle.std.proofs.Common.{◌≡◌, ℕ, List, [], ◌∷◌, Some, sym, subst}
+use Rattle.std.proofs.Common.{◌≡◌, ℕ, List, [], ◌∷◌, Some}
 use Rattle.std.specs.Prelude.{reverse, slice_index_or}
 use Rattle.stn_model.specs.Net.{Net, arcs_of, point_count}
 use Rattle.stn_model.specs.Schedules.{IsConsistent}
@@ -9,7 +9,8 @@ use Rattle.private_elim.specs.Locals.{LocalView, local_of}
 use Rattle.private_elim.specs.Picked.{ArePicked}
 use Rattle.elim_journal.specs.Sections.{SectionView}
 use Rattle.joined_answer.specs.Joins.{IsLegalSection, ArePickedOrders}
-use Rattle.mastn.specs.declared.answer.Outcome.{Outcome}
+use Rattle.script_text.specs.declared.command.Command.{Command}
+use Rattle.mastn.specs.Commands.{SaysCommands}
 use Rattle.mastn.specs.declared.answer.Outcome.TheVariants.{Done, Inconsistent}
 use Rattle.mastn.specs.declared.words.Pick.{Pick}
 use Rattle.mastn.specs.Checks.{ReportsInconsistent}
@@ -38,20 +39,23 @@ module _ (answers other : ℕ → ℕ → ℕ → Type 0) (weaker : (degree numb
   }
 
 -- a consistent network, by the record of how it was solved
-pub says_consistent : (pick : Pick) (answers : ℕ → ℕ → ℕ → Type 0) (net : Net) (section : SectionView) (text : List ℕ)
-    → ((degree number key : ℕ) → answers degree number key → is_answer pick degree number key)
-    → IsConsistent (point_count net) (arcs_of net) → IsLegalSection net section → ArePickedOrders answers net section → text ≡ solved_report net section
-    → Solves pick net Done text
-says_consistent pick answers net section text keys consistent legal picked report = record {
+pub says_consistent : (pick : Pick) (answers : ℕ → ℕ → ℕ → Type 0) (net : Net) (section : SectionView) (commands : List Command)
+    (text said : List ℕ) → ((degree number key : ℕ) → answers degree number key → is_answer pick degree number key)
+    → IsConsistent (point_count net) (arcs_of net) → IsLegalSection net section → ArePickedOrders answers net section
+    → SaysCommands net commands said → text ≡ solved_report net section said → Solves pick net commands Done text
+says_consistent pick answers net section commands text said keys consistent legal picked says report = record {
   verdict = consistent;
   says = record {
     section = section;
     legal = legal;
     picked = ArePickedOrders-weaker answers (is_answer pick) keys net section picked;
+    said = said;
+    says = says;
     report = report;
   };
 }
 
 -- an inconsistent network, by a negative cycle
-pub says_inconsistent : (pick : Pick) (net : Net) (text : List ℕ) → ReportsInconsistent net text → Solves pick net Inconsistent text
-says_inconsistent pick net text h = record { verdict = no_schedule (arcs_of net) (point_count net) h.walk h.cycle; says = h }
+pub says_inconsistent : (pick : Pick) (net : Net) (commands : List Command) (text : List ℕ) → ReportsInconsistent net text
+    → Solves pick net commands Inconsistent text
+says_inconsistent pick net commands text h = record { verdict = no_schedule (arcs_of net) (point_count net) h.walk h.cycle; says = h }

@@ -7,8 +7,9 @@ use Rattle.net_text.specs.declared.read.NetRead.{NetRead}
 use Rattle.script_text.specs.declared.read.ScriptRead.{ScriptRead}
 use Rattle.mastn.specs.declared.answer.Outcome.{Outcome}
 use Rattle.mastn.specs.declared.answer.Outcome.TheVariants.{Done, Inconsistent, NetBad, ScriptBad, NotProved, TooLarge}
+use Rattle.script_text.specs.declared.command.Command.{Command}
 use Rattle.mastn.specs.declared.script.Asked.{Asked}
-use Rattle.mastn.specs.declared.script.Asked.TheVariants.{Nothing}
+use Rattle.mastn.specs.declared.script.Asked.TheVariants.{Told}
 use Rattle.mastn.specs.declared.words.Pick.{Pick}
 use Rattle.mastn.specs.Certificates.{IsVerdictOn}
 use Rattle.mastn.specs.Laws.{IsReported, SolvesAreReported}
@@ -31,16 +32,16 @@ solved net ScriptBad h = absurd h
 solved net NotProved h = absurd h
 solved net TooLarge h = absurd h
 
-reported : (pick : Pick) (bytes : List ℕ) (read : NetRead) (r : Result ScriptRead TextError) (o : Outcome) (text : List ℕ)
-    → Asks (read.lines + 1) (drop read.used bytes) r Nothing
+reported : (commands : List Command) (pick : Pick) (bytes : List ℕ) (read : NetRead) (r : Result ScriptRead TextError) (o : Outcome) (text : List ℕ)
+    → Asks (read.lines + 1) (drop read.used bytes) r (Told commands)
     → (is : Asked) × Asks (read.lines + 1) (drop read.used bytes) r is × SaysAsked pick read.net is o text → IsReported (status_of o)
-reported pick bytes read r o text asks h =
-    let is = one_asked (read.lines + 1) (drop read.used bytes) r Nothing h.0 asks h.1 in
+reported commands pick bytes read r o text asks h =
+    let is = one_asked (read.lines + 1) (drop read.used bytes) r (Told commands) h.0 asks h.1 in
     let says = subst (λ a. SaysAsked pick read.net a o text) is h.2 in
     solved read.net o says.verdict
 
 pub valid_solves : SolvesAreReported
 valid_solves pick source left sink taken answer runs v =
     run_reports (solves pick) source left v.bytes v.told v.few v.reads
-    (λ o text h. reported pick v.bytes v.read _ o text v.asks (subst (λ r. SaysRead (OfScript pick v.bytes) r o text) v.begins h))
+    (λ o text h. reported v.commands pick v.bytes v.read _ o text v.asks (subst (λ r. SaysRead (OfScript pick v.bytes) r o text) v.begins h))
     sink taken answer runs v.writes

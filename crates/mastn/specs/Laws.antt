@@ -21,7 +21,8 @@ use Rattle.mastn.specs.declared.question.Question.{Question}
 use Rattle.mastn.specs.declared.question.Question.TheVariants.{Check, Certify, Verify, Upgrade, Repair}
 use Rattle.mastn.specs.declared.status.Status.{Status}
 use Rattle.mastn.specs.declared.status.Status.TheVariants.{Done, Inconsistent, OutOfMemory}
-use Rattle.mastn.specs.declared.script.Asked.TheVariants.{Nothing}
+use Rattle.script_text.specs.declared.command.Command.{Command}
+use Rattle.mastn.specs.declared.script.Asked.TheVariants.{Told}
 use Rattle.mastn.specs.declared.words.Pick.{Pick}
 use Rattle.mastn.specs.declared.words.Pick.TheVariants.{Number}
 use Rattle.mastn.specs.Gens.{Generates}
@@ -66,15 +67,16 @@ pub record IsJsonRun (source left : SourceState) (sink taken : SinkState) : Type
   pub reads : Rose source.faults left.faults → ⊥
   pub writes : Rose sink.faults taken.faults → ⊥
 
--- a run of `solve` on a valid input: the source told it, it is within the limit, it begins with a network, what follows asks for nothing beyond the
--- solve, and neither count of faults rose
+-- a run of `solve` on a valid input: the source told it, it is within the limit, it begins with a network, what follows is a script of
+-- built commands, and neither count of faults rose
 pub record IsSolveRun (source left : SourceState) (sink taken : SinkState) : Type 0 where
   pub bytes : List ℕ
   pub told : source.left ≡ Some bytes
   pub few : length bytes ≤ longest_input
   pub read : NetRead
   pub begins : text_of bytes ≡ Ok read
-  pub asks : Asks (read.lines + 1) (drop read.used bytes) (script_of read.net (read.lines + 1) (drop read.used bytes)) Nothing
+  pub commands : List Command
+  pub asks : Asks (read.lines + 1) (drop read.used bytes) (script_of read.net (read.lines + 1) (drop read.used bytes)) (Told commands)
   pub reads : Rose source.faults left.faults → ⊥
   pub writes : Rose sink.faults taken.faults → ⊥
 

@@ -8,6 +8,7 @@ pub mod Upgrades
 pub mod Repairs
 pub mod Gens
 pub mod Questions
+pub mod Commands
 pub mod Solves
 pub mod Json
 pub mod Requests

@@ -1,5 +1,5 @@
--- What the job `solve` says of its input: key_of, is_answer, solved_report, SaysSolved, Solves, asked_behind, Asks, SaysAsked, OfScript, solves.
-use Rattle.std.specs.Prelude.{◌≡◌, ℕ, ◌+◌, true, List, [], ◌∷◌, ◌++◌, codes, drop, Option, None, Some, Result, Ok, Err}
+-- What the job `solve` says of its input: key_of, is_answer, solved_report, ReportsSolved, SaysSolved, Solves, asked_behind, Asks, SaysAsked, OfScript, solves.
+use Rattle.std.specs.Prelude.{◌≡◌, ℕ, ◌+◌, true, List, [], ◌++◌, codes, drop, Option, None, Some, Result, Ok, Err, if◌then◌else◌}
 use Rattle.stn_model.specs.Net.{Net}
 use Rattle.net_text.specs.declared.cause.TextCause.TheVariants.{AfterDone}
 use Rattle.net_text.specs.declared.cause.TextError.{TextError}
@@ -22,6 +22,7 @@ use Rattle.mastn.specs.declared.script.Asked.TheVariants as asked
 use Rattle.mastn.specs.declared.words.Pick.{Pick}
 use Rattle.mastn.specs.declared.words.Pick.TheVariants.{Degree, Number}
 use Rattle.mastn.specs.Certificates.{IsVerdictOn}
+use Rattle.mastn.specs.Commands.{are_built, SaysCommands}
 use Rattle.mastn.specs.Checks.{ReportsInconsistent}
 use Rattle.mastn.specs.Questions.{SaysRead}
 use Rattle.mastn.specs.Reports.{refusal_line}
@@ -34,33 +35,34 @@ key_of Number degree number = number
 abbrev pub is_answer : Pick → ℕ → ℕ → ℕ → Type 0
 is_answer pick degree number answer = answer ≡ key_of pick degree number
 
--- the report of a consistent network, by the record of how it was solved
-abbrev pub solved_report : Net → SectionView → List ℕ
-solved_report net section = verdict_line true ++ order_lines net (joined_order section) ++ word_line (codes "done")
+-- the report of a consistent network, by the record of how it was solved, and by what the commands say of it
+abbrev pub solved_report : Net → SectionView → List ℕ → List ℕ
+solved_report net section said = verdict_line true ++ order_lines net (joined_order section) ++ said ++ word_line (codes "done")
 
--- a legal record, whose private points are such as the pick allows, and its report
-pub record ReportsSolved (pick : Pick) (net : Net) (text : List ℕ) : Type 0 where
+-- a legal record, whose private points are such as the pick allows, and its report with what the commands say of the network
+pub record ReportsSolved (pick : Pick) (net : Net) (commands : List Command) (text : List ℕ) : Type 0 where
   pub section : SectionView
   pub legal : IsLegalSection net section
   pub picked : ArePickedOrders (is_answer pick) net section
-  pub report : text ≡ solved_report net section
+  pub said : List ℕ
+  pub says : SaysCommands net commands said
+  pub report : text ≡ solved_report net section said
 
 -- the text for a network, by the outcome
-abbrev pub SaysSolved : Pick → Net → Outcome → List ℕ → Type 0
-SaysSolved pick net Done text = ReportsSolved pick net text
-SaysSolved pick net Inconsistent text = ReportsInconsistent net text
-SaysSolved pick net outcome text = ⊥
+abbrev pub SaysSolved : Pick → Net → List Command → Outcome → List ℕ → Type 0
+SaysSolved pick net commands Done text = ReportsSolved pick net commands text
+SaysSolved pick net commands Inconsistent text = ReportsInconsistent net text
+SaysSolved pick net commands outcome text = ⊥
 
 -- the outcome and the text for a network: `Done` exactly where some schedule satisfies it, and `Inconsistent` exactly where none does
-pub record Solves (pick : Pick) (net : Net) (outcome : Outcome) (text : List ℕ) : Type 0 where
+pub record Solves (pick : Pick) (net : Net) (commands : List Command) (outcome : Outcome) (text : List ℕ) : Type 0 where
   pub verdict : IsVerdictOn net outcome
-  pub says : SaysSolved pick net outcome text
+  pub says : SaysSolved pick net commands outcome text
 
 -- what a script asks for, by the first line behind it that is neither blank nor a comment
 abbrev pub asked_behind : Option ℕ → List Command → Asked
 asked_behind (Some number) commands = asked.Bad number AfterDone
-asked_behind None [] = asked.Nothing
-asked_behind None (command ∷ more) = asked.NotBuilt
+asked_behind None commands = if are_built commands then asked.Told commands else asked.NotBuilt
 
 -- what the rest of an input asks for, by what it is as a script; its first line has that number, and lines count on
 abbrev pub Asks : ℕ → List ℕ → Result ScriptRead TextError → Asked → Type 0
@@ -72,7 +74,7 @@ Asks first rest (Err refused.OutOfMemory) is = ⊥
 abbrev pub SaysAsked : Pick → Net → Asked → Outcome → List ℕ → Type 0
 SaysAsked pick net (asked.Bad number cause) outcome text = (outcome ≡ ScriptBad) × (text ≡ error_line number (cause_word cause) [])
 SaysAsked pick net asked.NotBuilt outcome text = (outcome ≡ ScriptBad) × (text ≡ refusal_line (codes "NotBuilt"))
-SaysAsked pick net asked.Nothing outcome text = Solves pick net outcome text
+SaysAsked pick net (asked.Told commands) outcome text = Solves pick net commands outcome text
 
 -- the outcome and the text for the network that an input begins with, and for the script behind its text
 abbrev pub OfScript : Pick → List ℕ → NetRead → Outcome → List ℕ → Type 0

@@ -4,6 +4,7 @@
 mod answer;
 mod certify;
 mod check;
+mod commands;
 mod generate;
 mod json;
 mod laws;

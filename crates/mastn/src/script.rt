@@ -3,20 +3,21 @@ ghost use Rattle.std.specs.Prelude.{◌+◌, ◌<◌, ◌^◌, IfOk, length};
 ghost use Rattle.script_text.specs.Scripts.{script_of};
 ghost use Rattle.mastn.specs.Solves.{Asks};
 
+use crate::commands::are_built;
 use net_text::{TextCause, TextError, rest_is_blank};
-use script_text::read_script;
+use script_text::{Script, read_script};
 use std::alloc::Global;
 use stn_model::{Network, OutOfMemory};
 
 /// What the rest of an input asks of its network.
-#[derive(Clone, Copy, Debug, PartialEq, Eq)]
+#[derive(Drop)]
 pub enum Asked {
     /// It begins with no script, or a line stands behind the script that is neither blank nor a comment.
     Bad { line: u32, cause: TextCause },
-    /// A command, and none is built.
+    /// A command that is not built.
     NotBuilt,
-    /// Nothing beyond the solve: the script is its `done` line.
-    Nothing,
+    /// These commands, all of which are built.
+    Told(Script),
 }
 
 /// What the rest of an input asks of its network. The first line of the rest has the number `first_line`.
@@ -40,8 +41,8 @@ pub fn read_asked(
             cause: TextCause::AfterDone,
         });
     }
-    if read.script.commands().is_empty() {
-        Ok(Asked::Nothing)
+    if are_built(read.script.commands()) {
+        Ok(Asked::Told(read.script))
     } else {
         Ok(Asked::NotBuilt)
     }

@@ -1,13 +1,15 @@
 //! The answer of `solve`.
-ghost use Rattle.std.specs.Prelude.{◌≡◌, ℕ, ◌≤◌, IfOk, length};
+ghost use Rattle.std.specs.Prelude.{◌≡◌, ℕ, ◌≤◌, List, true, IfOk, length};
 ghost use Rattle.stn_model.specs.Net.{arcs_of, point_count};
 ghost use Rattle.stn_model.specs.Schedules.{IsConsistent};
 ghost use Rattle.joined_answer.specs.Joins.{IsLegalSection};
+ghost use Rattle.mastn.specs.Commands.{are_built, SaysCommands};
 ghost use Rattle.mastn.specs.Limits.{longest_input};
 ghost use Rattle.mastn.specs.Solves.{OfScript, Solves, key_of, solved_report, solves};
 
 use crate::answer::{Answer, Outcome, refusal};
 use crate::check::conflict_text;
+use crate::commands::say_all;
 use crate::script::{Asked, read_asked};
 use crate::words::Pick;
 use agent_worker::Gate;
@@ -15,6 +17,7 @@ use elim_step::Picker;
 use joined_answer::{Answer as Solved, Joined, solve};
 use net_text::{NetRead, TextError, read_net};
 use schedule_report::{order_lines, verdict, word_line};
+use script_text::Command;
 use std::alloc::Global;
 use std::sync::Wait;
 use std::thread::Threads;
@@ -55,7 +58,7 @@ fn solve_read<R: Threads + Wait + Sync, G: Gate + Sync>(
     match read_asked(alloc, &read.net, &bytes[read.used..], read.lines + 1)? {
         Asked::Bad { line, cause } => refusal(alloc, Outcome::ScriptBad, line, cause.word()),
         Asked::NotBuilt => refusal(alloc, Outcome::ScriptBad, 0, b"NotBuilt"),
-        Asked::Nothing => solve_net(rt, alloc, pick, &read.net, gate),
+        Asked::Told(script) => solve_net(rt, alloc, pick, &read.net, script.commands(), gate),
     }
 }
 
@@ -65,18 +68,20 @@ fn solve_net<R: Threads + Wait + Sync, G: Gate + Sync>(
     alloc: Global,
     pick: Pick,
     net: &Network,
+    commands: &[Command],
     gate: &G,
 ) -> Result<Answer, OutOfMemory>
-    ensures { IfOk result (λ a. Solves pick net.now a.outcome a.text.items) }
+    requires built { are_built commands.now ≡ true }
+    ensures { IfOk result (λ a. Solves pick net.now commands.now a.outcome a.text.items) }
 {
     match pick {
         Pick::Degree => {
             let key = Box::new(alloc, |degree: u32, _number: u32| u64::from(degree))?;
-            solve_by(rt, alloc, pick, key, net, gate)
+            solve_by(rt, alloc, pick, key, net, commands, gate)
         }
         Pick::Number => {
             let key = Box::new(alloc, |_degree: u32, number: u32| u64::from(number))?;
-            solve_by(rt, alloc, pick, key, net, gate)
+            solve_by(rt, alloc, pick, key, net, commands, gate)
         }
     }
 }
@@ -88,17 +93,19 @@ fn solve_by<R: Threads + Wait + Sync, G: Gate + Sync>(
     pick: Pick,
     key: Box<dyn Fn(u32, u32) -> u64 + Send + Sync>,
     net: &Network,
+    commands: &[Command],
     gate: &G,
 ) -> Result<Answer, OutOfMemory>
+    requires built { are_built commands.now ≡ true }
     requires callable { IsAlwaysCallable key }
     requires keys { (degree number answer : ℕ) → post key degree number answer → answer ≡ key_of pick degree number }
-    ensures { IfOk result (λ a. Solves pick net.now a.outcome a.text.items) }
+    ensures { IfOk result (λ a. Solves pick net.now commands.now a.outcome a.text.items) }
 {
     let picker = Picker::new(key);
     let solved = solve(rt, alloc, net, &picker, gate)?;
     match solved {
         Solved::Consistent(joined) => {
-            let text = solved_text(alloc, net, &joined)?;
+            let text = solved_text(alloc, net, &joined, commands)?;
             Ok(Answer {
                 outcome: Outcome::Done,
                 text,
@@ -114,16 +121,23 @@ fn solve_by<R: Threads + Wait + Sync, G: Gate + Sync>(
     }
 }
 
-/// The report of a network that was solved.
-fn solved_text(alloc: Global, net: &Network, joined: &Joined) -> Result<Vec<u8>, OutOfMemory>
+/// The report of a network that was solved, with what the commands say.
+fn solved_text(
+    alloc: Global,
+    net: &Network,
+    joined: &Joined,
+    commands: &[Command],
+) -> Result<Vec<u8>, OutOfMemory>
     requires network { joined.now.network ≡ net.now }
     requires legal { IsLegalSection net.now joined.now.section }
+    requires built { are_built commands.now ≡ true }
     ensures consistent { IfOk result (λ text. IsConsistent (point_count net.now) (arcs_of net.now)) }
-    ensures report { IfOk result (λ text. text.items ≡ solved_report net.now joined.now.section) }
+    ensures report { IfOk result (λ text. (said : List ℕ) × SaysCommands net.now commands.now said × (text.items ≡ solved_report net.now joined.now.section said)) }
 {
     let mut text = Vec::new(alloc);
     verdict(true, &mut text)?;
     order_lines(joined.network(), joined.order(), &mut text)?;
+    say_all(alloc, joined, commands, &mut text)?;
     word_line(b"done", &mut text)?;
     Ok(text)
 }

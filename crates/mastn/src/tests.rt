@@ -286,10 +286,12 @@ fn shared_points_come_in_either_order(rt: HostRuntime) -> Result<(), Fail> {
         &rt,
         &[],
         HANDOVER,
-        b"# nothing is asked\ndone\n\n# behind it\n",
+        b"# the windows alone\nwindows\ndone\n\n# behind it\n",
     )?;
-    let first: &[u8] = b"consistent\nprivate a1\nprivate b2\nshared a2\nshared b1\ndone\n";
-    let second: &[u8] = b"consistent\nprivate a1\nprivate b2\nshared b1\nshared a2\ndone\n";
+    let first: &[u8] =
+        b"consistent\nprivate a1\nprivate b2\nshared a2\nshared b1\nwindows 4\nwindow a1 0 20\nwindow a2 30 60\nwindow b1 30 65\nwindow b2 40 85\ndone\n";
+    let second: &[u8] =
+        b"consistent\nprivate a1\nprivate b2\nshared b1\nshared a2\nwindows 4\nwindow a1 0 20\nwindow a2 30 60\nwindow b1 30 65\nwindow b2 40 85\ndone\n";
     assert_eq!(rt; found.0, Status::Done);
     assert!(rt; found.1.as_slice() == first || found.1.as_slice() == second);
     Ok(())
@@ -333,7 +335,7 @@ fn scripts_are_refused(rt: HostRuntime) -> Result<(), Fail> {
         (&[], b"", Status::ScriptBad, b"error 14 NoDone\n"),
         (
             &[],
-            b"windows\ndone\n",
+            b"windows\nbounds\ndone\n",
             Status::ScriptBad,
             b"error 0 NotBuilt\n",
         ),
