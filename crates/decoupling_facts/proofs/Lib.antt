@@ -1,0 +1,12 @@
+pub mod Lists
+pub mod FinalBounds
+pub mod Windows
+pub mod Neighbours
+pub mod Boxes
+pub mod Assignments
+pub mod Pieces
+pub mod JointTimes
+pub mod LocalNetworks
+pub mod Decouplings
+pub mod Blockers
+pub mod Handover
