@@ -14,3 +14,4 @@ pub mod PrivatePairs
 pub mod SharedPairs
 pub mod PartBounds
 pub mod MadeParts
+pub mod IsolatedBounds

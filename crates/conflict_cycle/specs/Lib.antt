@@ -3,3 +3,4 @@ pub mod PartOrders
 pub mod SharedPairs
 pub mod PrivatePairs
 pub mod Parts
+pub mod Isolated
