@@ -9,6 +9,7 @@ pub mod Finishing
 pub mod SameEntries
 pub mod Seeking
 pub mod Counts
+pub mod Throughs
 pub mod Keeping
 pub mod Copying
 pub mod Laying

@@ -1,5 +1,6 @@
 -- What a shared graph keeps, and what is true of it: GraphView, places_in, published_of, state_of, IsAgentArc, IsMeetingLeaf, IsSumThrough, IsOrigin,
--- IsPlaceVia, via_by_point, IsSumBefore, HasSumsBefore, list_at, flag_at, Fields, IsLaterList, IsGraph. The place 0 stands for z, and the others for the shared points by number.
+-- IsPlaceVia, via_by_point, IsSumBefore, HasSumsBefore, IsFinalVia, HaveCome, list_at, flag_at, Fields,
+-- IsLaterList, IsGraph. The place 0 stands for z, and the others for the shared points by number.
 use Rattle.std.specs.Prelude.{◌≡◌, ℕ, suc, ◌+◌, ◌<◌, ◌≤◌, List, [], ◌∷◌, Bool, true, false, not, map, reverse, length, slice_index_or, Option, Some, IfSome, Contains}
 use Rattle.stn_model.specs.declared.ids.Constraint.{Constraint}
 use Rattle.stn_model.specs.declared.ids.PointId.{PointId}
@@ -19,6 +20,7 @@ use Rattle.shared_graph.specs.Interfaces.{InterfaceView, IsInterface, points_of}
 use Rattle.shared_graph.specs.States.{State, Published, agent_arcs, meeting_of, is_published, is_revisited}
 use Rattle.shared_graph.specs.Weights.{forward, final, is_joined, is_later}
 use Rattle.shared_graph.specs.Together.{HoldsTogether}
+use Rattle.shared_graph.specs.Throughs.{CameThrough}
 
 -- the interface and the plain state
 pub record GraphView : Type 0 where
@@ -85,6 +87,17 @@ IsSumBefore points order p q (Through k) = is_in (before_both order (point_at po
 abbrev pub HasSumsBefore : List ℕ → List ℕ → (ℕ → ℕ → Option Cell) → Type 0
 HasSumsBefore points order at = (p q : ℕ) → IfSome (at p q) (λ c. IsSumBefore points order p q c.via)
 
+-- a final weight came through the point of a place, and all those between places did
+abbrev pub IsFinalVia : InterfaceView → State → List ℕ → ℕ → ℕ → Via → Type 0
+IsFinalVia face s points i j (Given e) = ⊥
+IsFinalVia face s points i j (PublishedBy a) = ⊥
+IsFinalVia face s points i j (Through k) = (k < length points) × CameThrough face s i j (point_at points k)
+
+abbrev pub HaveCome : InterfaceView → State → List ℕ → (ℕ → ℕ → Option Cell) → Type 0
+HaveCome face s points at =
+    (p q : ℕ) → p < length points → q < length points
+    → IfSome (at p q) (λ c. IsFinalVia face s points (point_at points p) (point_at points q) c.via)
+
 -- the list of a place, and its truth value
 abbrev pub list_at : List (List ℕ) → ℕ → List ℕ
 list_at lists k = slice_index_or lists k []
@@ -143,3 +156,4 @@ pub record IsGraph (g : Fields) : Type 0 where
   pub untaken : suc g.untaken ≡ count_below (remains g.remain) (length g.points)
   pub unvisited : g.unvisited ≡ count_below (λ k. not (flag_at g.done k)) (length g.points)
   pub revisits_fit : length g.state.revisited + g.unvisited ≤ g.revisit_room
+  pub throughs : HaveCome g.face g.state g.points g.final_at

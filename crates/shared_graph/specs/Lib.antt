@@ -5,6 +5,7 @@ pub mod Windows
 pub mod Refusals
 pub mod Replays
 pub mod Together
+pub mod Throughs
 pub mod Laws
 pub mod Examples
 pub mod Views

@@ -20,6 +20,7 @@ mod scans;
 pub mod shared;
 pub mod steps;
 mod take;
+pub mod throughs;
 pub mod told;
 pub mod unfold;
 

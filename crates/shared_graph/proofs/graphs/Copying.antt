@@ -29,4 +29,5 @@ refitted g h room fits = record {
   untaken = h.untaken;
   unvisited = h.unvisited;
   revisits_fit = fits;
+  throughs = h.throughs;
 }

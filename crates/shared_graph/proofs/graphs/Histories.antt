@@ -1,7 +1,7 @@
 -- Journals that grow, and what they say of networks: replay-push, entered, published_entered, started, copied, same_view, journal_sound, published_below,
 -- grown; the tests of steps:
 -- revisit_tests, may_clear, may_stop, taken_order, taken_same; unvisited_less, unvisited_most; stops_exclude, told_fits, finals_are_least, verdict.
-use Rattle.std.proofs.Common.{zero, suc, ◌≡◌, ◌≢◌, ℕ, ◌+◌, ◌<◌, ◌≤◌, List, [], ◌∷◌, ◌++◌, Bool, true, false, ◌||◌, ◌&&◌, not, Option, Some, None, ap, sym}
+use Rattle.std.proofs.Common.{zero, suc, ◌≡◌, ◌≢◌, ℕ, ◌+◌, ◌<◌, ◌≤◌, List, [], ◌∷◌, ◌++◌, Bool, true, false, ◌||◌, not, Option, Some, None, ap, sym}
 use Rattle.std.proofs.Common.{◌∙◌, refl, arith, inl, inr, length, subst, set, replicate}
 use Rattle.std.specs.Prelude.{ℤ, ◌==◌, if◌then◌else◌, is_some, filter, Contains, IfSome, MatchOption}
 use Rattle.std.specs.Option.{option_map}
@@ -28,10 +28,11 @@ use Rattle.shared_graph.specs.Journals.{StandsFor, OfStanding, IsVerdictOn}
 use Rattle.shared_graph.specs.Publications.{entries_in}
 use Rattle.shared_graph.specs.Refusals.{not_published, order_open, first_below, refusal}
 use Rattle.shared_graph.specs.Replays.{summary_of, AreRight, after, replay}
-use Rattle.shared_graph.specs.States.{State, Published, agent_id, point_id, published_in, is_published, is_revisited, start}
+use Rattle.shared_graph.specs.States.{State, Published, agent_id, point_id, published_in, is_published, start}
 use Rattle.shared_graph.specs.Together.{IsAllPublished, IsWhole}
 use Rattle.shared_graph.specs.Takes.{MayEliminate}
-use Rattle.shared_graph.specs.Weights.{first_passing, least_negative, is_joined, final, final_weight}
+use Rattle.shared_graph.specs.Weights.{first_passing, least_negative, final}
+use Rattle.shared_graph.proofs.graphs.Throughs.{final_there}
 use Rattle.shared_graph.proofs.networks.Verdicts.{stop_shows, whole_shows, finals_bound}
 use Rattle.shared_graph.proofs.states.Keeps.{IsSound, start_sound, replay_sound}
 use Rattle.shared_graph.proofs.states.Listed.{AreListed, start_listed, listed_replay}
@@ -327,16 +328,6 @@ pub told_fits : {X : Type 0} (o : Option X) (entries : X → Summary) (face : In
     → IfSome o (λ x. (is_published s a ≡ true) × (entries x ≡ entries_in s.published a)) → IfSome o (λ x. IsFitting face a (entries x))
 told_fits {X} None entries face s a sound h = tt
 told_fits {X} (Some x) entries face s a sound h = subst (IsFitting face a) (sym h.1) (entries_fit face s.published a sound.fitting h.0)
-
--- where a final cell is there, its points are joined and revisited
-final_there : (face : InterfaceView) (s : State) (i j : ℕ) (b : ℤ) → final face s i j ≡ Some b
-    → (is_joined face s i j ≡ true) × (is_revisited s i ≡ true) × (is_revisited s j ≡ true)
-final_there face s i j b h = go (is_joined face s i j) (is_revisited s i) (is_revisited s j) h where
-  go : (x y z : Bool) → (if x && y && z then final_weight face s i j else None) ≡ Some b → (x ≡ true) × (y ≡ true) × (z ≡ true)
-  go true true true g = (refl, refl, refl)
-  go true true false g = absurd (cc)
-  go true false z g = absurd (cc)
-  go false y z g = absurd (cc)
 
 pub final_is_least : (v : SharedView) (i j : ℕ) (b : ℤ) → final v.face v.state i j ≡ Some b
     → OfStanding v (λ net. IsLeastBound (point_count net) (arcs_of net) i j b)

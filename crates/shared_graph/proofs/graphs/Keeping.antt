@@ -20,6 +20,7 @@ use Rattle.shared_graph.specs.Replays.{after, summary_of}
 use Rattle.shared_graph.specs.States.{State, Published}
 use Rattle.shared_graph.specs.Together.{HoldsTogether}
 use Rattle.shared_graph.specs.Weights.{is_later, final}
+use Rattle.shared_graph.proofs.graphs.Throughs.{stopped_came}
 use Rattle.shared_graph.proofs.states.Keeps.{sound_of, entry_keeps, together}
 
 -- the same agents have published, so the same weights are leaves
@@ -64,6 +65,7 @@ pub still_graph : (g : Fields) → IsGraph g → (state : State) (places : ℕ) 
     })
 still_graph g h state places at joins final_places final_at final_room same_state same_places cells size pairs final_size final_cells kept =
     let same_at : at ≡ g.at = (λ t p q. cells p q t) in
+    let same_finals : final_at ≡ g.final_at = (λ t p q. final_cells p q t) in
     record {
       interface = h.interface;
       together = rw same_state h.together;
@@ -93,6 +95,7 @@ still_graph g h state places at joins final_places final_at final_room same_stat
       untaken = h.untaken;
       unvisited = h.unvisited;
       revisits_fit = rw same_state h.revisits_fit;
+      throughs = rw (same_state, same_finals) h.throughs;
     }
 
 -- where a stop is entered
@@ -143,4 +146,5 @@ stopped_graph g h v e cycle legal =
       untaken = h.untaken;
       unvisited = h.unvisited;
       revisits_fit = h.revisits_fit;
+      throughs = stopped_came g.face s (Some cycle) g.points g.final_at h.throughs;
     }

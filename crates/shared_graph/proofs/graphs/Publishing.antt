@@ -34,6 +34,7 @@ use Rattle.shared_graph.proofs.states.Passing.{no_stop, publish_passes}
 use Rattle.shared_graph.proofs.graphs.Counts.{count_less, count_some}
 use Rattle.shared_graph.proofs.graphs.Laying.{same_test}
 use Rattle.shared_graph.proofs.graphs.Standing.{places_rise}
+use Rattle.shared_graph.proofs.graphs.Throughs.{nothing_came}
 
 -- where no point is revisited there is no final weight
 pub no_final : (face : InterfaceView) (s : State) → ((p : ℕ) → is_in s.revisited p ≡ false) → (i j : ℕ) → final face s i j ≡ None
@@ -253,6 +254,9 @@ module _ (g : Fields) (h : IsGraph g) (agent : AgentId) (entries : Summary) (fit
         untaken = h.untaken;
         unvisited = h.unvisited;
         revisits_fit = h.revisits_fit;
+        throughs = λ p q lp lq.
+            nothing_came _ (g.final_at p q)
+            (h.finals p q lp lq ∙ no_final g.face g.state none_revisited (point_at g.points p) (point_at g.points q));
       }
 
 -- what it says that an agent may publish

@@ -34,6 +34,7 @@ use Rattle.shared_graph.proofs.graphs.Keeping.{leaf_same, still_together}
 use Rattle.shared_graph.proofs.graphs.Readying.{before_once, IsVisit, later_at, asks_others, not_revisited, some_left}
 use Rattle.shared_graph.proofs.graphs.Standing.{fields_grounded, place_of_listed}
 use Rattle.shared_graph.proofs.graphs.Telling.{joined_turned, no_forward}
+use Rattle.shared_graph.proofs.graphs.Throughs.{all_came}
 use Rattle.shared_graph.proofs.states.Keeps.{IsSound, sound_of, cells_hold, whole_light, whole_least, joined_place}
 use Rattle.shared_graph.proofs.states.Meetings.{IsPlace, listed_not_z}
 
@@ -391,6 +392,7 @@ module _ (g : Fields) (h : IsGraph g) (x k : ℕ) (visit : IsVisit g x k) where
             untaken = h.untaken;
             unvisited = omega arith;
             revisits_fit = (let fit = h.revisits_fit in omega arith);
+            throughs = all_came g h x k visit list l after revisits finals_more;
           })
 
 -- how many later neighbours there are, in a view that has another name

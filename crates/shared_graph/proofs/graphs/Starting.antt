@@ -24,6 +24,7 @@ use Rattle.shared_graph.proofs.graphs.Counts.{count_less}
 use Rattle.shared_graph.proofs.graphs.Laying.{same_test}
 use Rattle.shared_graph.proofs.graphs.Publishing.{no_final}
 use Rattle.shared_graph.proofs.graphs.Standing.{places_rise}
+use Rattle.shared_graph.proofs.graphs.Throughs.{nothing_came}
 
 remains_all : (n k : ℕ) → k < n → remains (replicate n true) k ≡ true
 remains_all zero k lt = absurd (omega arith)
@@ -125,6 +126,7 @@ module _ (face : InterfaceView) (known : IsInterface face) (at : ℕ → ℕ →
             let less = count_less (λ k. true) (λ k. not (flag_at done k)) 0 n (omega arith) refl (ap not (alone 0)) others in
             omega arith);
         revisits_fit = omega arith;
+        throughs = λ p q lp lq. nothing_came _ (final_at p q) (ap weight_at (none p q));
       } where
         others : (m : ℕ) → m ≢ 0 → not (flag_at done m) ≡ true
         others m ne = (let off : (m == 0) ≡ false = grind (arith, nat_tests) in ap not (alone m ∙ off))

@@ -44,6 +44,7 @@ use Rattle.shared_graph.proofs.graphs.Keeping.{leaf_same, still_together}
 use Rattle.shared_graph.proofs.graphs.Negatives.{none_here}
 use Rattle.shared_graph.proofs.graphs.Standing.{fields_grounded}
 use Rattle.shared_graph.proofs.graphs.Telling.{joined_turned, forward_joined, none_to_itself, points_differ, weight_there}
+use Rattle.shared_graph.proofs.graphs.Throughs.{nothing_came}
 use Rattle.shared_graph.proofs.states.Keeps.{sound_of}
 use Rattle.shared_graph.proofs.states.Meetings.{listed_of, not_z}
 use Rattle.shared_graph.proofs.states.Passing.{no_stop, eliminate_passes, stop_passes}
@@ -419,6 +420,10 @@ module _ (g : Fields) (h : IsGraph g) (inside : (p q : ℕ) → is_some (g.at p 
             untaken = (let counts = left_counts in omega arith);
             unvisited = h.unvisited;
             revisits_fit = h.revisits_fit;
+            throughs = λ p q lp lq.
+                nothing_came _ (final_at p q)
+                (ap weight_at (final_cells p q) ∙ h.finals p q lp lq
+                ∙ final_none g.face g.state (point_at g.points p) (point_at g.points q) unvisited);
           })
 
 -- the state with one eliminated point more at the end of its list
