@@ -27,3 +27,4 @@ pub mod TellOnce
 pub mod Readied
 pub mod Relaying
 pub mod Onward
+pub mod Nexts

@@ -1,5 +1,7 @@
 //! How final weights came to be, and which there are.
-ghost use Rattle.std.specs.Prelude.{◌≡◌, ℕ, ◌<◌, IfSome, is_some, length};
+ghost use Rattle.std.specs.Prelude.{◌≡◌, ℕ, ◌<◌, true, None, IfSome, IfNone, is_some, length};
+ghost use Rattle.std.specs.Option.{option_map};
+ghost use Rattle.dist_rows.specs.Cells.{IsAbove};
 ghost use Rattle.elim_step.specs.Eliminated.{point_at, weight_at};
 ghost use Rattle.shared_graph.specs.Graphs.{IsFinalVia, places_in};
 ghost use Rattle.shared_graph.specs.Throughs.{CameThrough};
@@ -25,6 +27,23 @@ impl<R: Rows> Graph<R> {
         Some(self.point_of(via))
     }
 
+    /// The least point above `after`, or of all points where that is None, to which there is a final weight from `i`; None exactly where there is
+    /// none. Walks along the row of `i` alone, and takes no memory.
+    pub fn next_final(&self, i: PointId, after: Option<PointId>) -> Option<PointId>
+        ensures some { IfSome result (λ p. IsAbove p.0 (option_map (λ p. p.0) after) × (is_some (final self.now.face self.now.state i.0 p.0) ≡ true)) }
+        ensures least { IfSome result (λ p. (q : ℕ) → q < p.0 → IsAbove q (option_map (λ p. p.0) after) → final self.now.face self.now.state i.0 q ≡ None) }
+        ensures none { IfNone result ((q : ℕ) → IsAbove q (option_map (λ p. p.0) after) → final self.now.face self.now.state i.0 q ≡ None) }
+    {
+        let Some(row) = self.place_of(i) else {
+            return None;
+        };
+        let before = self.place_before(after);
+        let Some(place) = self.finals.next_neighbour(row, before) else {
+            return None;
+        };
+        Some(self.point_of(place))
+    }
+
     // The final cell from one point to another.
     fn final_cell(&self, i: PointId, j: PointId) -> Option<Cell>
         ensures weight { weight_at result ≡ final self.now.face self.now.state i.0 j.0 }
@@ -46,6 +65,22 @@ impl<R: Rows> Graph<R> {
     {
         PointId(self.points[place as usize])
     }
+
+    // The place of the greatest point that is not above another; None where there is no other.
+    fn place_before(&self, after: Option<PointId>) -> Option<u32>
+        ensures { (k : ℕ) → k < length (places_in self.now.face)
+            → (IsAbove k result → IsAbove (point_at (places_in self.now.face) k) (option_map (λ p. p.0) after))
+            × (IsAbove (point_at (places_in self.now.face) k) (option_map (λ p. p.0) after) → IsAbove k result) }
+    {
+        let Some(after) = after else {
+            return None;
+        };
+        match self.points.binary_search(&after.0) {
+            Ok(place) => Some(place as u32),
+            Err(0) => None,
+            Err(place) => Some((place - 1) as u32),
+        }
+    }
 }
 
 impl Shared {
@@ -58,5 +93,15 @@ impl Shared {
         ensures came { IfSome result (λ m. CameThrough self.now.face self.now.state i.0 j.0 m.0) }
     {
         self.graph.final_through(i, j)
+    }
+
+    /// The least point above `after`, or of all points where that is None, to which there is a final weight from `i`: so the pairs with a least
+    /// bound are met one by one. None exactly where there is no such point. Walks along the row of `i` alone, and takes no memory.
+    pub fn next_final(&self, i: PointId, after: Option<PointId>) -> Option<PointId>
+        ensures some { IfSome result (λ p. IsAbove p.0 (option_map (λ p. p.0) after) × (is_some (final self.now.face self.now.state i.0 p.0) ≡ true)) }
+        ensures least { IfSome result (λ p. (q : ℕ) → q < p.0 → IsAbove q (option_map (λ p. p.0) after) → final self.now.face self.now.state i.0 q ≡ None) }
+        ensures none { IfNone result ((q : ℕ) → IsAbove q (option_map (λ p. p.0) after) → final self.now.face self.now.state i.0 q ≡ None) }
+    {
+        self.graph.next_final(i, after)
     }
 }

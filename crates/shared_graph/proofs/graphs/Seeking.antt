@@ -1,4 +1,4 @@
--- What a binary search among points that rise answers: place_low, found_at, found_nowhere, nowhere_listed.
+-- What a binary search among points that rise answers: up, place_low, found_at, found_nowhere, nowhere_listed.
 use Rattle.std.proofs.Common.{zero, suc, ◌≡◌, ◌≢◌, ℕ, ◌<◌, ◌≤◌, List, length, get_or, Ok, Err, arith, inl, inr, nat_cmp}
 use Rattle.std.proofs.Common.{Bool, true, false, Option, Some, None, refl, sym, subst}
 use Rattle.std.specs.Prelude.{IfNone}
@@ -12,7 +12,7 @@ use Rattle.shared_graph.specs.Interfaces.{InterfaceView, IsInterface, is_listed}
 use Rattle.shared_graph.proofs.graphs.Standing.{place_of_listed}
 
 -- a list that rises does not fall
-up : (xs : List ℕ) → AllPairs (λ p q. p < q) xs → (i j : ℕ) → i ≤ j → j < length xs → get_or xs i 0 ≤ get_or xs j 0
+pub up : (xs : List ℕ) → AllPairs (λ p q. p < q) xs → (i j : ℕ) → i ≤ j → j < length xs → get_or xs i 0 ≤ get_or xs j 0
 up xs h i j le within =
     elim (cases_lt i j) [
       | inl less ↦ (let below = h i j 0 less within in omega arith)
