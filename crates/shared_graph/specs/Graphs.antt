@@ -1,7 +1,7 @@
 -- What a shared graph keeps, and what is true of it: GraphView, places_in, published_of, state_of, IsAgentArc, IsMeetingLeaf, IsSumThrough, IsOrigin,
--- IsPlaceVia, via_by_point, IsSumBefore, HasSumsBefore, IsFinalVia, HaveCome, list_at, flag_at, Fields,
--- IsLaterList, IsGraph. The place 0 stands for z, and the others for the shared points by number.
-use Rattle.std.specs.Prelude.{◌≡◌, ℕ, suc, ◌+◌, ◌<◌, ◌≤◌, List, [], ◌∷◌, Bool, true, false, not, map, reverse, length, slice_index_or, Option, Some, IfSome, Contains}
+-- IsPlaceVia, via_by_point, IsSumBefore, HasSumsBefore, IsFinalVia, HaveCome, list_at, flag_at, is_gone, gone_count, Fields, IsLaterList, AreCounted,
+-- IsGraph. The place 0 stands for z, and the others for the shared points by number.
+use Rattle.std.specs.Prelude.{◌≡◌, ℕ, suc, ◌+◌, ◌<◌, ◌≤◌, List, [], ◌∷◌, Bool, true, false, ◌&&◌, not, map, reverse, length, slice_index_or, Option, Some, IfSome, Contains}
 use Rattle.stn_model.specs.declared.ids.Constraint.{Constraint}
 use Rattle.stn_model.specs.declared.ids.PointId.{PointId}
 use Rattle.stn_walk.specs.Eliminations.{is_in, before_both, sum_of}
@@ -105,9 +105,16 @@ list_at lists k = slice_index_or lists k []
 abbrev pub flag_at : List Bool → ℕ → Bool
 flag_at flags k = slice_index_or flags k false
 
+-- an eliminated point that is joined with k, and at how many of these places there is one
+abbrev pub is_gone : InterfaceView → State → ℕ → ℕ → Bool
+is_gone face s k p = is_joined face s k p && is_in s.order p
+
+abbrev pub gone_count : InterfaceView → State → List ℕ → ℕ → ℕ
+gone_count face s points k = count_below (λ m. is_gone face s k (point_at points m)) (length points)
+
 -- the interface and the state; the points by place; the forward cells, the joined pairs, and which places remain; of each eliminated place its later
 -- neighbours; the final cells, the pairs with room for one, and which places are revisited; how many agents, places and revisits are left, and how
--- many points may stand in the list of the revisited ones without memory
+-- many points may stand in the list of the revisited ones without memory; with how many eliminated places each place is joined
 pub record Fields : Type 0 where
   pub face : InterfaceView
   pub state : State
@@ -125,6 +132,7 @@ pub record Fields : Type 0 where
   pub untaken : ℕ
   pub unvisited : ℕ
   pub revisit_room : ℕ
+  pub gone : List ℕ
 
 -- the later neighbours of each eliminated place, by rising place, and room for the final cells with each
 pub record IsLaterList (g : Fields) (k : ℕ) (list : List ℕ) : Type 0 where
@@ -132,6 +140,11 @@ pub record IsLaterList (g : Fields) (k : ℕ) (list : List ℕ) : Type 0 where
   pub within : (m : ℕ) → is_in list m ≡ true → m < length g.points
   pub each : (m : ℕ) → m < length g.points → is_in list m ≡ is_later g.face g.state (point_at g.points k) (point_at g.points m)
   pub room : (m : ℕ) → is_in list m ≡ true → (g.final_room k m ≡ true) × (g.final_room m k ≡ true)
+
+-- with how many eliminated points the point of each place is joined, where it is not eliminated itself
+pub record AreCounted (face : InterfaceView) (s : State) (points gone : List ℕ) : Type 0 where
+  pub len : length gone ≡ length points
+  pub each : (k : ℕ) → k < length points → is_in s.order (point_at points k) ≡ false → slice_index_or gone k 0 ≡ gone_count face s points (point_at points k)
 
 -- what the fields come to, in the terms of the state
 pub record IsGraph (g : Fields) : Type 0 where
@@ -157,3 +170,4 @@ pub record IsGraph (g : Fields) : Type 0 where
   pub unvisited : g.unvisited ≡ count_below (λ k. not (flag_at g.done k)) (length g.points)
   pub revisits_fit : length g.state.revisited + g.unvisited ≤ g.revisit_room
   pub throughs : HaveCome g.face g.state g.points g.final_at
+  pub gone : AreCounted g.face g.state g.points g.gone

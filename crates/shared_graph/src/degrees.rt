@@ -1,5 +1,6 @@
 //! How many points an elimination would look at.
-ghost use Rattle.std.specs.Prelude.{◌≡◌, true};
+ghost use Rattle.std.specs.Prelude.{◌≡◌, true, false};
+ghost use Rattle.stn_walk.specs.Eliminations.{is_in};
 ghost use Rattle.shared_graph.specs.Interfaces.{is_listed};
 ghost use Rattle.shared_graph.specs.Takes.{left_count, degree_of};
 
@@ -20,15 +21,16 @@ impl<R: Rows> Graph<R> {
         Some(self.left_count(point))
     }
 
-    // How many points that are not eliminated are joined with a shared point.
+    // How many points that are not eliminated are joined with a shared point that is not. Takes no look at them.
     fn left_count(&self, point: PointId) -> u32
-        requires { is_listed self.now.face point.0 ≡ true }
+        requires listed { is_listed self.now.face point.0 ≡ true }
+        requires left { is_in self.now.state.order point.0 ≡ false }
         ensures { result ≡ left_count self.now.face self.now.state point.0 }
     {
         let Some(place) = self.place_of(point) else {
             unreachable!()
         };
-        self.joins.count(place, self.remain.as_slice())
+        self.joins.count_joined(place) - self.gone[place as usize]
     }
 }
 

@@ -39,6 +39,8 @@ pub struct Graph<R: Rows> {
     pub(crate) remain: Vec<bool>,
     /// Of each eliminated place, the places joined with it that were left then, by rising number.
     pub(crate) later: Vec<Vec<u32>>,
+    /// Of each place that is not eliminated, with how many eliminated places it is joined.
+    pub(crate) gone: Vec<u32>,
     /// The least weights between revisited places that are joined, with room for those of all eliminated places.
     pub(crate) finals: R,
     /// Which places are revisited; the reference point counts as one.
@@ -76,6 +78,7 @@ impl<R: Rows> Model for Graph<R> {
       untaken = g.untaken;
       unvisited = g.unvisited;
       revisit_room = vec_capacity g.revisited;
+      gone = g.gone.items;
     }) };
 }
 
@@ -217,6 +220,7 @@ impl<R: Rows> Graph<R> {
         let later = copy_lists(alloc, self.later.as_slice())?;
         let finals = self.finals.copy(alloc)?;
         let done = Vec::from_slice(alloc, self.done.as_slice())?;
+        let gone = Vec::from_slice(alloc, self.gone.as_slice())?;
         Ok(Graph {
             interface,
             points,
@@ -228,6 +232,7 @@ impl<R: Rows> Graph<R> {
             joins,
             remain,
             later,
+            gone,
             finals,
             done,
             unpublished: self.unpublished,

@@ -64,6 +64,7 @@ impl<R: Rows> Graph<R> {
             later: no_lists(alloc, size)?,
             finals,
             done: origin_alone(alloc, size)?,
+            gone: vec![in alloc; 0; size]?,
             unpublished,
             untaken: shared,
             unvisited: shared,

@@ -1,5 +1,5 @@
 //! The elimination of a shared point.
-ghost use Rattle.std.specs.Prelude.{◌≡◌, ◌≢◌, ◌∷◌, ℕ, ◌+◌, ◌*◌, ◌<◌, ◌≤◌, true, false, None, Some, IfOk, OnOk, OnErr, MatchOption, length};
+ghost use Rattle.std.specs.Prelude.{◌≡◌, ◌≢◌, ◌∷◌, ℕ, ◌+◌, ◌*◌, ◌<◌, ◌≤◌, true, false, None, Some, IfOk, OnOk, OnErr, MatchOption, length, slice_index_or, if◌then◌else◌};
 ghost use Rattle.std.specs.Option.{option_map};
 ghost use Rattle.stn_walk.specs.Eliminations.{is_in};
 ghost use Rattle.dist_rows.specs.Places.{AreWithin, AreRisingPlaces};
@@ -66,6 +66,7 @@ impl<R: Rows> Graph<R> {
             Found::Clear => {
                 self.joins.join_all_reserved(list.as_slice());
                 self.remain[place as usize] = false;
+                count_gone(self.gone.as_mut_slice(), list.as_slice());
                 self.later[place as usize] = list;
                 self.order.push_reserved(point);
                 self.untaken -= 1;
@@ -100,4 +101,17 @@ fn open_finals<R: Rows>(finals: &mut R, place: u32, list: &[u32]) -> Result<(), 
         finals.make_room(list[n], place)?;
     }
     Ok(())
+}
+
+// Counts one eliminated place more at each of these places.
+fn count_gone(gone: &mut [u32], places: &[u32])
+    requires within { (p : ℕ) → is_in places.now p ≡ true → p < length gone.old }
+    requires rising { AreRisingPlaces places.now }
+    requires few { (p : ℕ) → is_in places.now p ≡ true → slice_index_or gone.old p 0 < 4294967295 }
+    ensures len { length gone.new ≡ length gone.old }
+    ensures each { (p : ℕ) → slice_index_or gone.new p 0 ≡ slice_index_or gone.old p 0 + (if is_in places.now p then 1 else 0) }
+{
+    for &p in places {
+        gone[p as usize] += 1;
+    }
 }

@@ -30,4 +30,5 @@ refitted g h room fits = record {
   unvisited = h.unvisited;
   revisits_fit = fits;
   throughs = h.throughs;
+  gone = h.gone;
 }

@@ -62,6 +62,7 @@ pub still_graph : (g : Fields) → IsGraph g → (state : State) (places : ℕ) 
       untaken = g.untaken;
       unvisited = g.unvisited;
       revisit_room = g.revisit_room;
+      gone = g.gone;
     })
 still_graph g h state places at joins final_places final_at final_room same_state same_places cells size pairs final_size final_cells kept =
     let same_at : at ≡ g.at = (λ t p q. cells p q t) in
@@ -96,6 +97,7 @@ still_graph g h state places at joins final_places final_at final_room same_stat
       unvisited = h.unvisited;
       revisits_fit = rw same_state h.revisits_fit;
       throughs = rw (same_state, same_finals) h.throughs;
+      gone = rw same_state h.gone;
     }
 
 -- where a stop is entered
@@ -118,6 +120,7 @@ pub stopped_graph : (g : Fields) → IsGraph g → (v : GraphView) → record { 
       untaken = g.untaken;
       unvisited = g.unvisited;
       revisit_room = g.revisit_room;
+      gone = g.gone;
     })
 stopped_graph g h v e cycle legal =
     let s = g.state in
@@ -147,4 +150,5 @@ stopped_graph g h v e cycle legal =
       unvisited = h.unvisited;
       revisits_fit = h.revisits_fit;
       throughs = stopped_came g.face s (Some cycle) g.points g.final_at h.throughs;
+      gone = record { len = h.gone.len; each = h.gone.each };
     }

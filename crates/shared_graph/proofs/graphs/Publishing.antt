@@ -3,6 +3,7 @@ use Rattle.std.proofs.Common.{suc, ◌≡◌, ◌≢◌, ℕ, ◌<◌, List, ◌
 use Rattle.std.proofs.Common.{arith, length, inl, inr, ◌⊎◌, subst}
 use Rattle.std.specs.Prelude.{◌==◌, if◌then◌else◌, IfSome, Contains}
 use Rattle.std.specs.List.{AllPairs}
+use Rattle.std.proofs.Math.Bool.{and-false}
 use Rattle.std.proofs.lemmas.Bool.Decides.{nat_tests}
 use Rattle.std.proofs.lemmas.List.Elements.{Contains-get_or}
 use Rattle.stn_model.specs.declared.ids.AgentId.{AgentId}
@@ -22,7 +23,7 @@ use Rattle.elim_step.proofs.OriginFacts.{origins_wider, origins_changed}
 use Rattle.shared_graph.specs.declared.events.By.TheVariants.{Joiner}
 use Rattle.shared_graph.specs.declared.events.Event.TheVariants.{Publish}
 use Rattle.shared_graph.specs.Refusals.{refusal}
-use Rattle.shared_graph.specs.Graphs.{Fields, IsGraph, IsMeetingLeaf, IsSumBefore, HasSumsBefore}
+use Rattle.shared_graph.specs.Graphs.{Fields, IsGraph, IsMeetingLeaf, IsSumBefore, HasSumsBefore, is_gone, gone_count}
 use Rattle.shared_graph.specs.Interfaces.{InterfaceView, Summary, IsFitting}
 use Rattle.shared_graph.specs.Publications.{IsLaid, IsOldOrLaid}
 use Rattle.shared_graph.specs.States.{State, Published, agent_arcs, is_published, is_revisited, meeting_of}
@@ -31,7 +32,7 @@ use Rattle.shared_graph.specs.Weights.{final, final_weight, is_joined, is_later}
 use Rattle.shared_graph.proofs.cells.Steps.{Misses, edge_at, publish_lowers}
 use Rattle.shared_graph.proofs.states.Keeps.{IsSound, sound_of, together, new_outside, published}
 use Rattle.shared_graph.proofs.states.Passing.{no_stop, publish_passes}
-use Rattle.shared_graph.proofs.graphs.Counts.{count_less, count_some}
+use Rattle.shared_graph.proofs.graphs.Counts.{count_same, count_less, count_some}
 use Rattle.shared_graph.proofs.graphs.Laying.{same_test}
 use Rattle.shared_graph.proofs.graphs.Standing.{places_rise}
 use Rattle.shared_graph.proofs.graphs.Throughs.{nothing_came}
@@ -157,6 +158,24 @@ module _ (g : Fields) (h : IsGraph g) (agent : AgentId) (entries : Summary) (fit
         off false true = refl
         off false false = refl
 
+  -- and a point is joined with the same eliminated points
+  gone_same : (k : ℕ) → gone_count g.face next g.points k ≡ gone_count g.face g.state g.points k
+  gone_same k =
+      count_same (λ m. is_gone g.face next k (point_at g.points m)) (λ m. is_gone g.face g.state k (point_at g.points m)) (length g.points)
+      (λ m lm. by (point_at g.points m) (is_in g.state.order (point_at g.points m)) refl) where
+        by : (m : ℕ) (b : Bool) → is_in g.state.order m ≡ b → (is_joined g.face next k m && is_in g.state.order m)
+            ≡ (is_joined g.face g.state k m && is_in g.state.order m)
+        by m true gone =
+            ap (λ b. b && is_in g.state.order m)
+            ((publish_lowers g.face h.interface g.state sound told fits fresh k m).1
+            ∙ ap (λ b. is_joined g.face g.state k m || (not (k == m) && b)) (edge_at arcs k m (misses m gone)).0
+            ∙ off (is_joined g.face g.state k m) (not (k == m))) where
+              off : (x y : Bool) → (x || (y && false)) ≡ x
+              off true y = refl
+              off false true = refl
+              off false false = refl
+        by m false left = rw left (and-false (is_joined g.face next k m) ∙ sym (and-false (is_joined g.face g.state k m)))
+
   rising : AllPairs (λ p q. p < q) g.points
   rising = subst (λ (xs : List ℕ). AllPairs (λ p q. p < q) xs) (sym h.points) (places_rise g.face h.interface)
 
@@ -211,6 +230,7 @@ module _ (g : Fields) (h : IsGraph g) (agent : AgentId) (entries : Summary) (fit
         untaken = g.untaken;
         unvisited = g.unvisited;
         revisit_room = g.revisit_room;
+        gone = g.gone;
       })
   published_graph places at joins u same_places size weights laid joined less =
       let lowers = publish_lowers g.face h.interface g.state sound told fits fresh in
@@ -257,6 +277,7 @@ module _ (g : Fields) (h : IsGraph g) (agent : AgentId) (entries : Summary) (fit
         throughs = λ p q lp lq.
             nothing_came _ (g.final_at p q)
             (h.finals p q lp lq ∙ no_final g.face g.state none_revisited (point_at g.points p) (point_at g.points q));
+        gone = record { len = h.gone.len; each = λ k lk left. h.gone.each k lk left ∙ sym (gone_same (point_at g.points k)) };
       }
 
 -- what it says that an agent may publish

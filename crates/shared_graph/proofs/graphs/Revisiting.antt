@@ -359,6 +359,7 @@ module _ (g : Fields) (h : IsGraph g) (x k : ℕ) (visit : IsVisit g x k) where
             untaken = g.untaken;
             unvisited = unvisited;
             revisit_room = revisit_room;
+            gone = g.gone;
           })
       visited_graph state final_places final_room unvisited revisit_room same_state final_size room less same_room =
           let p = point_at g.points k in
@@ -393,6 +394,7 @@ module _ (g : Fields) (h : IsGraph g) (x k : ℕ) (visit : IsVisit g x k) where
             unvisited = omega arith;
             revisits_fit = (let fit = h.revisits_fit in omega arith);
             throughs = all_came g h x k visit list l after revisits finals_more;
+            gone = record { len = h.gone.len; each = h.gone.each };
           })
 
 -- how many later neighbours there are, in a view that has another name

@@ -1,10 +1,11 @@
 -- The graph in which nothing is done: started_graph.
 use Rattle.std.proofs.Common.{zero, suc, ◌≡◌, ◌≢◌, ℕ, ◌+◌, ◌<◌, ◌≤◌, List, [], Bool, true, false, ◌&&◌, not, Option, None, ap, sym, ◌∙◌}
-use Rattle.std.proofs.Common.{refl, arith, length, inl, inr, subst}
+use Rattle.std.proofs.Common.{refl, arith, length, get_or, inl, inr, subst}
+use Rattle.std.proofs.Math.Bool.{and-false}
 use Rattle.std.specs.Prelude.{◌==◌, if◌then◌else◌, IfSome, replicate}
 use Rattle.std.specs.List.{AllPairs}
 use Rattle.std.proofs.lemmas.Bool.Decides.{nat_tests}
-use Rattle.std.proofs.lemmas.List.{length-replicate}
+use Rattle.std.proofs.lemmas.List.{length-replicate, get_or-replicate}
 use Rattle.stn_walk.specs.Eliminations.{bound_of}
 use Rattle.stn_walk.specs.Joins.{has_edge}
 use Rattle.dist_rows.specs.declared.cell.Cell.{Cell}
@@ -14,7 +15,8 @@ use Rattle.elim_step.specs.JoinedPlaces.{is_joined as are_joined}
 use Rattle.elim_step.specs.Eliminated.{point_at, weight_at}
 use Rattle.elim_step.specs.Eliminates.{remains, count_below}
 use Rattle.elim_step.specs.Origins.{IsFrom, HasOrigins}
-use Rattle.shared_graph.specs.Graphs.{IsGraph, IsMeetingLeaf, IsSumBefore, HasSumsBefore, places_in, flag_at}
+use Rattle.shared_graph.specs.Graphs.{IsGraph, IsMeetingLeaf, IsSumBefore, HasSumsBefore, places_in, flag_at, is_gone}
+use Rattle.shared_graph.specs.Weights.{is_joined}
 use Rattle.shared_graph.specs.Interfaces.{InterfaceView, IsInterface}
 use Rattle.shared_graph.specs.Publications.{IsOldOrLaid}
 use Rattle.shared_graph.specs.States.{start}
@@ -38,6 +40,14 @@ count_all test (suc n) all =
     ap (λ b. (if b then 1 else 0) + count_below test n) (all n (omega arith)) in
     let rest = count_all test n (λ k lt. all k (omega arith)) in
     omega arith
+
+-- nothing passes
+none_pass : (test : ℕ → Bool) (n : ℕ) → ((k : ℕ) → k < n → test k ≡ false) → count_below test n ≡ 0
+none_pass test zero none = refl
+none_pass test (suc n) none =
+    let here = none n (omega arith) in
+    let rest = none_pass test n (λ k lt. none k (omega arith)) in
+    rw here (omega (arith, rest))
 
 module _ (face : InterfaceView) (known : IsInterface face) (at : ℕ → ℕ → Option Cell)
     (laid : (p q : ℕ) → IsOldOrLaid (places_in face) face.externals None p q None (at p q)) where
@@ -63,7 +73,7 @@ module _ (face : InterfaceView) (known : IsInterface face) (at : ℕ → ℕ →
       ]
 
   pub started_graph : (places : ℕ) (joins : Joins) (remain : List Bool) (later : List (List ℕ)) (final_places : ℕ) (final_at : ℕ → ℕ → Option Cell)
-      (final_room : ℕ → ℕ → Bool) (done : List Bool) (unpublished untaken unvisited room : ℕ)
+      (final_room : ℕ → ℕ → Bool) (done : List Bool) (unpublished untaken unvisited room : ℕ) (gone : List ℕ)
       → places ≡ length (places_in face) → joins.size ≡ length (places_in face)
       → ((p q : ℕ) → p < length (places_in face) → q < length (places_in face)
       → weight_at (at p q) ≡ bound_of face.externals (point_at (places_in face) p) (point_at (places_in face) q))
@@ -72,6 +82,7 @@ module _ (face : InterfaceView) (known : IsInterface face) (at : ℕ → ℕ →
       → remain ≡ replicate (length (places_in face)) true → length later ≡ length (places_in face) → final_places ≡ length (places_in face)
       → ((p q : ℕ) → final_at p q ≡ None) → length done ≡ length (places_in face) → ((k : ℕ) → flag_at done k ≡ (k == 0))
       → unpublished ≡ length face.leans → suc untaken ≡ length (places_in face) → suc unvisited ≡ length (places_in face) → unvisited ≤ room
+      → gone ≡ replicate (length (places_in face)) 0
       → IsGraph (record {
         face = face;
         state = start;
@@ -89,9 +100,10 @@ module _ (face : InterfaceView) (known : IsInterface face) (at : ℕ → ℕ →
         untaken = untaken;
         unvisited = unvisited;
         revisit_room = room;
+        gone = gone;
       })
-  started_graph places joins remain later final_places final_at final_room done unpublished untaken unvisited room same_places size weights joined all
-      later_len final_size none done_len alone agents left unseen fits =
+  started_graph places joins remain later final_places final_at final_room done unpublished untaken unvisited room gone same_places size weights joined all
+      later_len final_size none done_len alone agents left unseen fits zeros =
       let n = length (places_in face) in
       let rising : AllPairs (λ p q. p < q) (places_in face) = places_rise face known in
       record {
@@ -127,6 +139,13 @@ module _ (face : InterfaceView) (known : IsInterface face) (at : ℕ → ℕ →
             omega arith);
         revisits_fit = omega arith;
         throughs = λ p q lp lq. nothing_came _ (final_at p q) (ap weight_at (none p q));
+        gone = record {
+          len = ap length zeros ∙ length-replicate n 0;
+          each = λ k lk fresh.
+              ap (λ counts. get_or counts k 0) zeros ∙ get_or-replicate n k 0 0 lk
+              ∙ sym (none_pass (λ m. is_gone face start (point_at (places_in face) k) (point_at (places_in face) m)) n
+              (λ m lm. and-false (is_joined face start (point_at (places_in face) k) (point_at (places_in face) m))));
+        };
       } where
         others : (m : ℕ) → m ≢ 0 → not (flag_at done m) ≡ true
         others m ne = (let off : (m == 0) ≡ false = grind (arith, nat_tests) in ap not (alone m ∙ off))

@@ -1,11 +1,12 @@
--- One elimination keeps what a graph keeps: may_parts, later_stays, later_new, final_none, has_neighbours, gives, left_is, above_none, taken_graph,
--- order_grown, IsTurn, turn_of, left_told.
-use Rattle.std.proofs.Common.{suc, ◌≡◌, ◌≢◌, ℕ, ◌<◌, List, [], ◌∷◌, Bool, true, false, ◌||◌, ◌&&◌, not, Option, Some, None, ap, sym, ◌∙◌}
-use Rattle.std.proofs.Common.{◌++◌, map, refl, arith, inl, inr, length, length-set, subst, set, filter, get_or-set_same, get_or-set_other}
+-- One elimination keeps what a graph keeps: may_parts, later_stays, later_new, joined_stays, final_none, has_neighbours, gives, left_is, above_none,
+-- gone_few, taken_graph, order_grown, IsTurn, turn_of, left_told.
+use Rattle.std.proofs.Common.{suc, ◌≡◌, ◌≢◌, ℕ, ◌+◌, ◌<◌, List, [], ◌∷◌, Bool, true, false, ◌||◌, ◌&&◌, not, Option, Some, None, ap, sym, ◌∙◌}
+use Rattle.std.proofs.Common.{◌++◌, map, refl, arith, inl, inr, length, length-set, subst, set, filter, get_or, get_or-set_same, get_or-set_other}
 use Rattle.std.proofs.lemmas.List.{map-append, reverse-append}
 use Rattle.std.specs.Prelude.{reverse, ◌+ℤ◌, ◌==◌, int_lt, is_some, IfSome, if◌then◌else◌}
 use Rattle.std.proofs.lemmas.Bool.{cases_eq, false≢true, or_cases, and_parts, not-true}
 use Rattle.std.proofs.lemmas.Bool.Decides.{nat_tests}
+use Rattle.std.proofs.Math.Bool.{or-true, and-true, and-false}
 use Rattle.stn_model.specs.declared.ids.PointId.{PointId}
 use Rattle.stn_walk.specs.Eliminations.{is_in, before_both}
 use Rattle.stn_walk.specs.Joins.{joined_of}
@@ -25,6 +26,7 @@ use Rattle.elim_step.specs.Eliminates.{remains, is_pair, eliminated, lesser_of, 
 use Rattle.elim_step.specs.JoinedPlaces.{is_joined as are_joined}
 use Rattle.elim_step.proofs.Amongs.{step_among}
 use Rattle.elim_step.proofs.Blocks.{remains-within}
+use Rattle.elim_step.proofs.JoinWrites.{count_below-few}
 use Rattle.elim_step.proofs.JoinFacts.{joined-apart, joined-within, joined-neighbours, joined-after}
 use Rattle.elim_step.proofs.OriginFacts.{origins_kept, origins_wider}
 use Rattle.elim_step.proofs.Sound.{eliminates_more}
@@ -32,14 +34,15 @@ use Rattle.shared_graph.specs.declared.events.By.TheVariants.{Joiner}
 use Rattle.shared_graph.specs.declared.events.Event.TheVariants.{Eliminate, Stop}
 use Rattle.shared_graph.specs.declared.events.SharedCycle.{SharedCycle}
 use Rattle.shared_graph.specs.declared.told.Told.{Told}
-use Rattle.shared_graph.specs.Graphs.{state_of, places_in, IsMeetingLeaf, IsSumBefore, list_at, Fields, GraphView, IsLaterList, IsGraph}
+use Rattle.shared_graph.specs.Graphs.{state_of, places_in, IsMeetingLeaf, IsSumBefore, list_at, is_gone, gone_count}
+use Rattle.shared_graph.specs.Graphs.{Fields, GraphView, IsLaterList, AreCounted, IsGraph}
 use Rattle.shared_graph.specs.Interfaces.{InterfaceView, IsInterface}
 use Rattle.shared_graph.specs.Refusals.{refusal}
 use Rattle.shared_graph.specs.States.{State, point_id, meeting_of, is_revisited}
 use Rattle.shared_graph.specs.Takes.{MayEliminate, is_left, left_count}
 use Rattle.shared_graph.specs.Together.{IsOwned, HoldsTogether}
 use Rattle.shared_graph.specs.Weights.{is_joined, is_later, final, final_weight, least_negative}
-use Rattle.shared_graph.proofs.graphs.Counts.{count_same, count_filter, count_off, count_some, count_rising}
+use Rattle.shared_graph.proofs.graphs.Counts.{count_same, count_filter, count_at, count_off, count_some, count_rising}
 use Rattle.shared_graph.proofs.graphs.Keeping.{leaf_same, still_together}
 use Rattle.shared_graph.proofs.graphs.Negatives.{none_here}
 use Rattle.shared_graph.proofs.graphs.Standing.{fields_grounded}
@@ -87,7 +90,15 @@ before_more es x i j p here =
 before_gone : (es : List ℕ) (x i j : ℕ) → is_in (x ∷ es) i ≡ true → before_both (x ∷ es) i j ≡ before_both es i j
 before_gone es x i j gone = ap (λ b. if b || is_in (x ∷ es) j then before_both es i j else x ∷ es) gone
 
+before_gone_to : (es : List ℕ) (x i j : ℕ) → is_in (x ∷ es) j ≡ true → before_both (x ∷ es) i j ≡ before_both es i j
+before_gone_to es x i j gone =
+    ap (λ b. if b then before_both es i j else x ∷ es) (ap (λ b. is_in (x ∷ es) i || b) gone ∙ or-true (is_in (x ∷ es) i))
+
 module _ (face : InterfaceView) (s : State) (x : ℕ) where
+  -- what is joined with an eliminated point stays so
+  pub joined_stays : (i j : ℕ) → is_in (x ∷ s.order) j ≡ true → is_joined face (record s { order = x ∷ s.order }) i j ≡ is_joined face s i j
+  joined_stays i j gone = ap (λ es. not (i == j) && joined_of (meeting_of face s) es i j) (before_gone_to s.order x i j gone)
+
   -- later neighbours of an eliminated point stay
   pub later_stays : (i j : ℕ) → is_in s.order i ≡ true → is_later face (record s { order = x ∷ s.order }) i j ≡ is_later face s i j
   later_stays i j gone =
@@ -294,6 +305,82 @@ module _ (g : Fields) (h : IsGraph g) (inside : (p q : ℕ) → is_some (g.at p 
                 (out_of p p_k parts.2) (out_of q q_k parts.3))
                 ∙ is_in-first (point_at g.points k) g.state.order
 
+      -- a point that is left is joined with one eliminated point more where it is in the list
+      abbrev next : State
+      next = record g.state { order = point_at g.points k ∷ g.state.order }
+
+      gone_more : (m : ℕ) → m < length g.points → is_in g.state.order (point_at g.points m) ≡ false
+          → gone_count g.face next g.points (point_at g.points m)
+          ≡ gone_count g.face g.state g.points (point_at g.points m) + (if is_in list m then 1 else 0)
+      gone_more m lm left =
+          count_at (after m) (before m) k (length g.points) lk (off m) (same m)
+          ∙ ap (λ b. gone_count g.face g.state g.points (point_at g.points m) + (if b then 1 else 0)) (on ∙ sym listed) where
+            before : ℕ → ℕ → Bool
+            before m p = is_gone g.face g.state (point_at g.points m) (point_at g.points p)
+
+            after : ℕ → ℕ → Bool
+            after m p = is_gone g.face next (point_at g.points m) (point_at g.points p)
+
+            off : (m : ℕ) → before m k ≡ false
+            off m = ap (λ b. is_joined g.face g.state (point_at g.points m) (point_at g.points k) && b) fresh
+                ∙ and-false (is_joined g.face g.state (point_at g.points m) (point_at g.points k))
+
+            first : is_in (point_at g.points k ∷ g.state.order) (point_at g.points k) ≡ true
+            first = is_in-first (point_at g.points k) g.state.order
+
+            on : after m k ≡ is_joined g.face g.state (point_at g.points m) (point_at g.points k)
+            on =
+                (λ t. joined_stays g.face g.state (point_at g.points k) (point_at g.points m) (point_at g.points k) first t && first t)
+                ∙ and-true (is_joined g.face g.state (point_at g.points m) (point_at g.points k))
+
+            listed : is_in list m ≡ is_joined g.face g.state (point_at g.points m) (point_at g.points k)
+            listed =
+                listed_is m lm ∙ ap (λ b. is_joined g.face g.state (point_at g.points k) (point_at g.points m) && not b) left
+                ∙ and-true (is_joined g.face g.state (point_at g.points k) (point_at g.points m))
+                ∙ joined_turned g.face g.state (point_at g.points k) (point_at g.points m)
+
+            same : (m p : ℕ) → p < length g.points → p ≢ k → before m p ≡ after m p
+            same m p lp ne = by (is_in g.state.order (point_at g.points p)) refl where
+              out : is_in (point_at g.points k ∷ g.state.order) (point_at g.points p) ≡ is_in g.state.order (point_at g.points p)
+              out = is_in-rest (point_at g.points k) g.state.order (point_at g.points p) (points_differ g h inside p k lp lk ne)
+
+              by : (b : Bool) → is_in g.state.order (point_at g.points p) ≡ b → before m p ≡ after m p
+              by true gone = (λ t. sym (joined_stays g.face g.state (point_at g.points k) (point_at g.points m) (point_at g.points p) (out ∙ gone)) t
+                  && sym out t)
+              by false none =
+                  ap (λ b. is_joined g.face g.state (point_at g.points m) (point_at g.points p) && b) none
+                  ∙ and-false (is_joined g.face g.state (point_at g.points m) (point_at g.points p))
+                  ∙ sym (ap (λ b. is_joined g.face next (point_at g.points m) (point_at g.points p) && b) (out ∙ none)
+                  ∙ and-false (is_joined g.face next (point_at g.points m) (point_at g.points p)))
+
+      -- so there is room for one more
+      pub gone_few : (m : ℕ) → is_in list m ≡ true → (m < length g.gone) × (get_or g.gone m 0 < length g.points)
+      gone_few m here =
+          let lm = listed_low m here in
+          let left : is_in g.state.order (point_at g.points m) ≡ false =
+          not-true (is_in g.state.order (point_at g.points m))
+          ((and_parts (is_joined g.face g.state (point_at g.points k) (point_at g.points m)) (not (is_in g.state.order (point_at g.points m)))
+          (sym (listed_is m lm) ∙ here)).1) in
+          let more = gone_more m lm left ∙ ap (λ b. gone_count g.face g.state g.points (point_at g.points m) + (if b then 1 else 0)) here in
+          let few = count_below-few (λ p. is_gone g.face next (point_at g.points m) (point_at g.points p)) (length g.points) in
+          let was = h.gone.each m lm left in
+          let len = h.gone.len in
+          (omega arith, omega arith)
+
+      counted : (gone : List ℕ) → length gone ≡ length g.gone → ((p : ℕ) → get_or gone p 0 ≡ get_or g.gone p 0 + (if is_in list p then 1 else 0))
+          → AreCounted g.face next g.points gone
+      counted gone len now = record {
+        len = len ∙ h.gone.len;
+        each = λ m lm left.
+            let was = before-in_rest (point_at g.points k) g.state.order (point_at g.points m) left in
+            now m ∙ ap (λ n. n + (if is_in list m then 1 else 0)) (h.gone.each m lm was) ∙ sym (gone_more m lm was);
+      } where
+        before-in_rest : (x : ℕ) (es : List ℕ) (p : ℕ) → is_in (x ∷ es) p ≡ false → is_in es p ≡ false
+        before-in_rest x es p out = by (is_in es p) refl out where
+          by : (b : Bool) → is_in es p ≡ b → (is_in es p || (p == x)) ≡ false → is_in es p ≡ false
+          by true t out = absurd (false≢true (sym out ∙ ap (λ b. b || (p == x)) t))
+          by false t out = t
+
       -- joined places are those whose points are
       joined_more : (joins : Joins) → ((p q : ℕ) → are_joined joins p q ≡ (are_joined g.joins p q || (not (p == q) && is_in list p && is_in list q)))
           → (p q : ℕ) → p < length g.points → q < length g.points
@@ -326,12 +413,13 @@ module _ (g : Fields) (h : IsGraph g) (inside : (p q : ℕ) → is_some (g.at p 
 
       pub taken_graph : (after : ℕ → ℕ → Option Cell) → StepAmong list k g.at after Clear
           → (state : State) (places : ℕ) (joins : Joins) (later : List (List ℕ)) (final_places : ℕ) (final_at : ℕ → ℕ → Option Cell)
-          (final_room : ℕ → ℕ → Bool) (untaken : ℕ)
+          (final_room : ℕ → ℕ → Bool) (untaken : ℕ) (gone : List ℕ)
           → state ≡ record g.state { order = point_at g.points k ∷ g.state.order } → places ≡ g.places → joins.size ≡ g.joins.size
           → ((p q : ℕ) → are_joined joins p q ≡ (are_joined g.joins p q || (not (p == q) && is_in list p && is_in list q)))
           → later ≡ set g.later k list → final_places ≡ g.final_places → ((p q : ℕ) → final_at p q ≡ g.final_at p q)
           → ((p q : ℕ) → g.final_room p q ≡ true → final_room p q ≡ true)
           → ((m : ℕ) → is_in list m ≡ true → (final_room k m ≡ true) × (final_room m k ≡ true)) → suc untaken ≡ g.untaken
+          → length gone ≡ length g.gone → ((p : ℕ) → get_or gone p 0 ≡ get_or g.gone p 0 + (if is_in list p then 1 else 0))
           → IsGraph (record {
             face = g.face;
             state = state;
@@ -349,9 +437,10 @@ module _ (g : Fields) (h : IsGraph g) (inside : (p q : ℕ) → is_some (g.at p 
             untaken = untaken;
             unvisited = g.unvisited;
             revisit_room = g.revisit_room;
+            gone = gone;
           })
-      taken_graph after step state places joins later final_places final_at final_room untaken same_state same_places size pairs same_later final_size
-          final_cells kept room less =
+      taken_graph after step state places joins later final_places final_at final_room untaken gone same_state same_places size pairs same_later final_size
+          final_cells kept room less len now =
           let x = point_at g.points k in
           let arcs = meeting_of g.face g.state in
           let s : State = record g.state { order = x ∷ g.state.order } in
@@ -374,6 +463,7 @@ module _ (g : Fields) (h : IsGraph g) (inside : (p q : ℕ) → is_some (g.at p 
             untaken = untaken;
             unvisited = g.unvisited;
             revisit_room = g.revisit_room;
+            gone = gone;
           } in
           rw (same_state, same_later) (record {
             interface = h.interface;
@@ -424,6 +514,7 @@ module _ (g : Fields) (h : IsGraph g) (inside : (p q : ℕ) → is_some (g.at p 
                 nothing_came _ (final_at p q)
                 (ap weight_at (final_cells p q) ∙ h.finals p q lp lq
                 ∙ final_none g.face g.state (point_at g.points p) (point_at g.points q) unvisited);
+            gone = counted gone len now;
           })
 
 -- the state with one eliminated point more at the end of its list

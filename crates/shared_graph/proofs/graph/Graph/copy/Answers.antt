@@ -28,6 +28,7 @@ invariant_of-result g c =
       untaken = i.untaken;
       unvisited = i.unvisited;
       revisit_room = vec_capacity i.revisited;
+      gone = i.gone.items;
     } in
     let rows = c.in_ok-rows.ensures in
     let finals = c.in_ok-finals.ensures in
@@ -41,6 +42,7 @@ invariant_of-result g c =
     let later : map (λ (l : Vec ℕ Global). l.items) c.in_ok-later.later.items ≡ map (λ (l : Vec ℕ Global). l.items) i.later.items =
     c.in_ok-later.ensures ∙ ap (map (λ (l : Vec ℕ Global). l.items)) c.as_slice-6.ensures.value in
     let done : c.in_ok-done.done.items ≡ i.done.items = c.in_ok-done.ensures.items ∙ c.as_slice-7.ensures.value in
+    let gone : c.in_ok-gone.gone.items ≡ i.gone.items = c.in_ok-gone.ensures.items ∙ c.as_slice-8.ensures.value in
     let still =
     still_graph e h e.state (g.R.Rows.places c.in_ok-rows.rows) (g.R.Rows.at c.in_ok-rows.rows) c.in_ok-joins.joins (g.R.Rows.places c.in_ok-finals.finals)
     (g.R.Rows.at c.in_ok-finals.finals) (g.R.Rows.has_room c.in_ok-finals.finals) refl rows.places rows.cells c.in_ok-joins.ensures.size
@@ -51,4 +53,4 @@ invariant_of-result g c =
     let more = c.in_ok-extend_from_slice.ensures.capacity in
     let len = c.len.ensures in
     omega (arith, i.revisited.ok.0)) in
-    rw (face, points, published, order, revisited, remain, later, done) (refitted _ still (vec_capacity c.extend_from_slice.new.self) fits)
+    rw (face, points, published, order, revisited, remain, later, done, gone) (refitted _ still (vec_capacity c.extend_from_slice.new.self) fits)

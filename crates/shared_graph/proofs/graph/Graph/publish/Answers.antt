@@ -51,6 +51,7 @@ invariant_of-self-in_err-open_arcs g c =
       untaken = i.untaken;
       unvisited = i.unvisited;
       revisit_room = vec_capacity i.revisited;
+      gone = i.gone.items;
     } in
     still_graph e c.self.invariant (state_of c.reserve.new.self.items i.order.items i.stop i.revisited.items) (g.R.Rows.places c.open_arcs.new.rows)
     (g.R.Rows.at c.open_arcs.new.rows) i.joins e.final_places e.final_at e.final_room
@@ -94,6 +95,7 @@ overflow_sub-self g c =
       untaken = i.untaken;
       unvisited = i.unvisited;
       revisit_room = vec_capacity i.revisited;
+      gone = i.gone.items;
     } in
     let legal : refusal e.face e.state (record { by = Joiner; event = Publish c.args.agent }) ≡ None = (rw (← c.self.view_is) at c.requires.legal) in
     let fits : IsFitting e.face c.args.agent.0 c.args.summary.now = (rw (← c.self.view_is) at c.requires.fits) in
@@ -121,6 +123,7 @@ invariant_of-self-2 g c =
       untaken = i.untaken;
       unvisited = i.unvisited;
       revisit_room = vec_capacity i.revisited;
+      gone = i.gone.items;
     } in
     let h = c.self.invariant in
     let agent = c.args.agent in

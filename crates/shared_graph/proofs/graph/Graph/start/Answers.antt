@@ -49,14 +49,16 @@ invariant_of-result-2 g c =
     c.in_ok-vec.ensures.items_if_clones_equal (λ y e. e) ∙ ap (λ n. replicate n true) size in
     let later : length (map (λ (l : Vec ℕ Global). l.items) c.in_ok-no_lists.field-0.items) ≡ length (places_in face) =
     length-map c.in_ok-no_lists.field-0.items (λ l. l.items) ∙ c.in_ok-no_lists.ensures.len ∙ size in
+    let gone : c.in_ok-vec-2.field-0.items ≡ replicate (length (places_in face)) 0 =
+    c.in_ok-vec-2.ensures.items_if_clones_equal (λ y e. e) ∙ ap (λ n. replicate n 0) size in
     let room = c.in_ok-with_capacity.ensures.capacity in
     renamed _
     (started_graph face known at laid (g.R.Rows.places c.lower_arcs.new.rows) c.open_arcs.new.joins c.in_ok-vec.field-0.items
     (map (λ (l : Vec ℕ Global). l.items) c.in_ok-no_lists.field-0.items) (g.R.Rows.places c.args.finals) (g.R.Rows.at c.args.finals)
     (g.R.Rows.has_room c.args.finals) c.in_ok-origin_alone.field-0.items c.agents-unpublished.result (c.len-size.result - 1) (c.len-size.result - 1)
-    (vec_capacity c.in_ok-with_capacity.field-0) (c.lower_arcs.ensures.places ∙ c.open_arcs.ensures.places ∙ c.requires.rows_size)
+    (vec_capacity c.in_ok-with_capacity.field-0) c.in_ok-vec-2.field-0.items (c.lower_arcs.ensures.places ∙ c.open_arcs.ensures.places ∙ c.requires.rows_size)
     (c.open_arcs.ensures.size ∙ c.in_ok-joins.ensures.size ∙ size) weights joined remain later c.requires.finals_size c.requires.finals_empty
-    (c.in_ok-origin_alone.ensures.len ∙ size) c.in_ok-origin_alone.ensures.each c.agents-unpublished.ensures (omega arith) (omega arith) (omega arith))
+    (c.in_ok-origin_alone.ensures.len ∙ size) c.in_ok-origin_alone.ensures.each c.agents-unpublished.ensures (omega arith) (omega arith) (omega arith) gone)
     (interface_view c.interface.inside) (state_of c.new-2.result.items c.new-3.result.items None c.in_ok-with_capacity.field-0.items)
     c.in_ok-points.points.items c.interface.view_is
     (λ t. state_of (c.new-2.ensures.items t) (c.new-3.ensures.items t) None (c.in_ok-with_capacity.ensures.items t)) points

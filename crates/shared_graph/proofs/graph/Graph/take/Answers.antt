@@ -1,6 +1,6 @@
 use Rattle.std.proofs.Common.{Vec, Global, ◌≡◌, ◌≢◌, ℕ, ◌<◌, ◌≤◌, ◌+◌, ◌*◌, ◌++◌, [], ◌∷◌, List, true, ◌&&◌, ◌||◌, not, ap, sym, ◌∙◌, refl}
-use Rattle.std.proofs.Common.{arith, length, subst}
-use Rattle.std.specs.Prelude.{◌==◌, is_some}
+use Rattle.std.proofs.Common.{arith, length, subst, get_or, take, drop, append-nil}
+use Rattle.std.specs.Prelude.{◌==◌, is_some, if◌then◌else◌}
 use Rattle.stn_walk.specs.Eliminations.{is_in}
 use Rattle.elim_step.specs.Among.{StepAmong}
 use Rattle.elim_step.specs.Eliminates.{remains}
@@ -11,8 +11,8 @@ use Rattle.shared_graph.specs.Graphs.{state_of}
 use Rattle.shared_graph.proofs.graphs.Keeping.{still_graph}
 use Rattle.shared_graph.proofs.graphs.Negatives.{none_least, some_least}
 use Rattle.shared_graph.proofs.graphs.Standing.{cells_light}
-use Rattle.std.proofs.lemmas.List.{map-set}
-use Rattle.shared_graph.proofs.graphs.Taking.{taken_graph, turn_of, left_told, above_none, gives, order_grown}
+use Rattle.std.proofs.lemmas.List.{map-set, take_all, drop_all}
+use Rattle.shared_graph.proofs.graphs.Taking.{taken_graph, turn_of, left_told, above_none, gone_few, gives, order_grown}
 use Rattle.shared_graph.proofs.graph.Graph.take.Goals as goal
 
 pub invariant_of-self : goal.invariant_of-self
@@ -178,6 +178,46 @@ overflow_sub-self g c =
     above_none _ c.self.invariant (λ p q here. g.met.R.Rows.room_is_within i.rows p q (g.met.R.Rows.cells_have_room i.rows p q here)) k turn.low list each
     c.in_ok-neighbours.ensures.places turn.going turn.own turn.fresh
 
+-- a slice of a whole list, written over
+whole_slice : (n : ℕ) (new old : List ℕ) → length new ≡ length old → n ≡ length old → take n (new ++ drop (length new) old) ≡ new
+whole_slice n new old same many =
+    ap (λ m. take n (new ++ drop m old)) same ∙ ap (λ xs. take n (new ++ xs)) (drop_all (length old) old (omega arith)) ∙ ap (take n) (append-nil new)
+    ∙ take_all n new (omega arith)
+
+pub count_gone-requires-clause-within : goal.count_gone-requires-clause-within
+count_gone-requires-clause-within g c p here =
+    let i = c.self.inside in
+    let k = c.in-Some.place in
+    let list = c.neighbours.new.list.items in
+    let at = c.in-Some.ensures in
+    let turn = turn_of _ c.self.invariant _ c.self.view_is c.args.point k c.requires at.some.0 at.some.1 in
+    let each : (p : ℕ) → is_in list p ≡ (remains i.remain.items p && are_joined i.joins k p) =
+    (rw c.as_slice.ensures.value at c.in_ok-neighbours.ensures.each) in
+    let few =
+    gone_few _ c.self.invariant (λ p q here. g.met.R.Rows.room_is_within i.rows p q (g.met.R.Rows.cells_have_room i.rows p q here)) k turn.low list each
+    c.in_ok-neighbours.ensures.places turn.going turn.own turn.fresh p (rw c.as_slice-in-Clear-2.ensures.value at here) in
+    let same : length c.as_mut_slice.result.now ≡ length i.gone.items = ap length c.as_mut_slice.ensures.value in
+    omega (arith, few.0, same)
+
+pub count_gone-requires-clause-rising : goal.count_gone-requires-clause-rising
+count_gone-requires-clause-rising g c = rw c.as_slice-in-Clear-2.ensures.value c.in_ok-neighbours.ensures.places
+
+pub count_gone-requires-clause-few : goal.count_gone-requires-clause-few
+count_gone-requires-clause-few g c p here =
+    let i = c.self.inside in
+    let k = c.in-Some.place in
+    let list = c.neighbours.new.list.items in
+    let at = c.in-Some.ensures in
+    let turn = turn_of _ c.self.invariant _ c.self.view_is c.args.point k c.requires at.some.0 at.some.1 in
+    let each : (p : ℕ) → is_in list p ≡ (remains i.remain.items p && are_joined i.joins k p) =
+    (rw c.as_slice.ensures.value at c.in_ok-neighbours.ensures.each) in
+    let few =
+    gone_few _ c.self.invariant (λ p q here. g.met.R.Rows.room_is_within i.rows p q (g.met.R.Rows.cells_have_room i.rows p q here)) k turn.low list each
+    c.in_ok-neighbours.ensures.places turn.going turn.own turn.fresh p (rw c.as_slice-in-Clear-2.ensures.value at here) in
+    let same : get_or c.as_mut_slice.result.now p 0 ≡ get_or i.gone.items p 0 = ap (λ xs. get_or xs p 0) c.as_mut_slice.ensures.value in
+    let size = c.self.invariant.joins_size in
+    omega (arith, few.1, same, size)
+
 pub invariant_of-self-in-Clear : goal.invariant_of-self-in-Clear
 invariant_of-self-in-Clear g c =
     let i = c.self.inside in
@@ -198,10 +238,16 @@ invariant_of-self-in-Clear g c =
     let room : (m : ℕ) → is_in list m ≡ true
     → (g.R.Rows.has_room c.open_finals.new.finals k m ≡ true) × (g.R.Rows.has_room c.open_finals.new.finals m k ≡ true) =
     (rw c.as_slice-3.ensures.value at c.in_ok-open_finals.ensures.room) in
+    let slice : c.as_mut_slice.result.now ≡ i.gone.items = c.as_mut_slice.ensures.value in
+    let same_len : length c.count_gone.new.gone ≡ length i.gone.items = c.count_gone.ensures.len ∙ ap length slice in
+    let whole = whole_slice i.gone.len c.count_gone.new.gone i.gone.items same_len i.gone.ok.0 in
+    let whole_len = ap length whole ∙ same_len in
+    let now = λ (p : ℕ). ap (λ xs. get_or xs p 0) whole ∙ (rw c.as_slice-in-Clear-2.ensures.value at c.count_gone.ensures.each) p
+    ∙ ap (λ xs. get_or xs p 0 + (if is_in list p then 1 else 0)) slice in
     taken_graph _ c.self.invariant inside k turn.low list each c.in_ok-neighbours.ensures.places turn.going turn.own turn.fresh
-    (g.R.Rows.at c.eliminate_among.new.rows) step _ _ c.join_all_reserved.new.self _ _ _ _ _
+    (g.R.Rows.at c.eliminate_among.new.rows) step _ _ c.join_all_reserved.new.self _ _ _ _ _ _
     (order_grown i.published.items i.order.items c.push_reserved.new.self.items i.stop i.revisited.items c.args.point
     _ (c.push_reserved.ensures.items ∙ ap (λ (xs : List PointId). xs ++ c.args.point ∷ []) c.reserve.ensures.items) turn.is)
     c.eliminate_among.ensures.places (c.join_all_reserved.ensures.size ∙ c.reserve_all.ensures.size) pairs
     (map-set (λ (l : Vec ℕ Global). l.items) i.later.items k c.neighbours.new.list) c.open_finals.ensures.places c.open_finals.ensures.cells
-    c.open_finals.ensures.kept room (omega arith)
+    c.open_finals.ensures.kept room (omega arith) whole_len now
