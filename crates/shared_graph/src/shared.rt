@@ -1,11 +1,11 @@
 //! A shared graph with its journal.
-ghost use Rattle.std.specs.Prelude.{◌≡◌, ◌++◌, ◌∷◌, [], ◌==◌, true, false, None, Some, IfOk, IfSome, IfNone, map, reverse, if◌then◌else◌};
+ghost use Rattle.std.specs.Prelude.{◌≡◌, ◌++◌, ◌∷◌, [], ◌==◌, ◌+◌, ◌≤◌, true, false, None, Some, IfOk, IfSome, IfNone, length, map, reverse, vec_capacity, if◌then◌else◌};
 ghost use Rattle.stn_model.specs.Net.{arcs_of, point_count};
 ghost use Rattle.stn_model.specs.Schedules.{IsConsistent, IsLeastBound};
 ghost use Rattle.stn_model.specs.declared.ids.AgentId.{AgentId};
 ghost use Rattle.elim_step.specs.Eliminated.{weight_at};
 ghost use Rattle.shared_graph.specs.Graphs.{IsOrigin};
-ghost use Rattle.shared_graph.specs.Histories.{IsJournal};
+ghost use Rattle.shared_graph.specs.Histories.{IsJournal, unvisited_in};
 ghost use Rattle.shared_graph.specs.Interfaces.{IsFitting};
 ghost use Rattle.shared_graph.specs.Journals.{OfStanding};
 ghost use Rattle.shared_graph.specs.Publications.{entries_in};
@@ -68,6 +68,19 @@ impl Shared {
         let finals = SparseRows::new(alloc, places)?;
         let graph = Graph::start(alloc, interface, rows, finals)?;
         let journal = Vec::with_capacity(alloc, shared)?;
+        Shared::with_journal(alloc, graph, journal)
+    }
+
+    // A graph with its journal, which has room for the revisits that are left.
+    fn with_journal(
+        alloc: Global,
+        graph: Graph<SparseRows>,
+        journal: Vec<Entry>,
+    ) -> Result<Shared, OutOfMemory>
+        requires journal { IsJournal graph.face graph.state journal.items }
+        requires room { length journal.items + unvisited_in graph.face graph.state ≤ vec_capacity journal }
+        ensures { IfOk result (λ s. s ≡ record { face = graph.face; state = graph.state; journal = journal.items }) }
+    {
         let ready = graph.ready(alloc)?;
         let all = graph.all_places(alloc)?;
         let near = Vec::with_capacity(alloc, all.len())?;
@@ -174,15 +187,6 @@ impl Shared {
         for &entry in self.journal.as_slice() {
             journal.push_reserved(entry);
         }
-        let ready = graph.ready(alloc)?;
-        let all = graph.all_places(alloc)?;
-        let near = Vec::with_capacity(alloc, all.len())?;
-        Ok(Shared {
-            graph,
-            journal,
-            ready,
-            all,
-            near,
-        })
+        Shared::with_journal(alloc, graph, journal)
     }
 }
