@@ -2,7 +2,8 @@
 -- in one agent's own arcs, so its ends are a seen pair where they differ.
 --   PathBy, edge-turned, path-turned    a path whose inner points all have a property, and back
 --   path-through, path-over             two paths that meet, and a path over more arcs
---   edge_ends, own_edge                 edges of an agent's own arcs
+--   edge_ends, path_ends, own_edge      edges and paths of an agent's own arcs
+--   seen_pair                           a path through private points between points that are not private
 --   Stretch                             a path through an agent's private points
 --   SeenBySome, Piece                   what is between points that are not hidden
 --   edge_within, path_contracts         over a network that is valid
@@ -10,7 +11,7 @@ use Rattle.std.proofs.Common.{◌≡◌, ◌≢◌, ℕ, ◌<◌, true, false, �
 use Rattle.std.proofs.Common.{⊎_elim, ◌⊎◌, inl, inr}
 use Rattle.std.specs.Prelude.{Contains}
 use Rattle.std.specs.List.{AllByRecursion}
-use Rattle.std.proofs.lemmas.Bool.{cases_eq, or_cases}
+use Rattle.std.proofs.lemmas.Bool.{cases_eq, false≢true, or_cases}
 use Rattle.std.proofs.lemmas.Bool.Decides.{nat_tests}
 use Rattle.stn_model.specs.declared.ids.Constraint.{Constraint}
 use Rattle.stn_model.specs.Conflicts.{own_arcs, external_arcs}
@@ -71,7 +72,7 @@ module _ (net : Net) where
       elim h.2 [ inl there ↦ (subst P there.0 ends.0, subst P there.1 ends.1) | inr back ↦ (subst P back.1 ends.1, subst P back.0 ends.0) ]
 
   -- so are those of a path of own arcs
-  path_ends : (agent i j : ℕ) (ps : List ℕ) → IsPath (own_arcs net agent) i j ps
+  pub path_ends : (agent i j : ℕ) (ps : List ℕ) → IsPath (own_arcs net agent) i j ps
       → ((nat_eq i 0 || is_owned_by net agent i) ≡ true) × ((nat_eq j 0 || is_owned_by net agent j) ≡ true)
   path_ends agent i j [] h = edge_ends agent i j h
   path_ends agent i j (p ∷ ps) h = ((edge_ends agent i p h.0).0, (path_ends agent p j ps h.1).1)
@@ -83,6 +84,27 @@ module _ (net : Net) where
         | inl z ↦ (let e : p ≡ 0 = grind (arith, nat_tests) in absurd ((hidden_parts net p hidden).0 e))
         | inr owned ↦ owned_hidden net agent p owned hidden
       ]
+
+  -- so two of its points that are not private are seen where a path of own arcs through its private points leads from one to the other
+  shown_end : (agent p : ℕ) → (nat_eq p 0 || is_owned_by net agent p) ≡ true → is_private_of net agent p ≡ false → is_hidden net p ≡ false
+  shown_end agent p end shown =
+      elim (is_hidden net p) as (λ b. is_hidden net p ≡ b → b ≡ false) [
+        | true ↦ λ t. absurd (false≢true (sym shown ∙ end_private agent p end t))
+        | false ↦ λ t. refl
+      ] refl
+
+  pub seen_pair : (agent i j : ℕ) → i ≢ j → is_private_of net agent i ≡ false → is_private_of net agent j ≡ false
+      → PathBy (λ p. is_private_of net agent p ≡ true) (own_arcs net agent) i j → IsSeenPair net agent i j
+  seen_pair agent i j apart start end path =
+      let ends = path_ends agent i j path.0 path.1 in
+      record {
+        different = apart;
+        from = seen_of net agent i ends.0 (shown_end agent i ends.0 start);
+        to = seen_of net agent j ends.1 (shown_end agent j ends.1 end);
+        inner = path.0;
+        path = path.1;
+        privately = path.2;
+      }
 
   -- an arc at a private point is own
   pub own_edge : (agent q p : ℕ) → is_private_of net agent q ≡ true → HasEdge (arcs_of net) q p → HasEdge (own_arcs net agent) q p

@@ -1,5 +1,6 @@
 -- What comes before what in the joined order, in which the private points stand first, then the shared ones as they were eliminated, then z:
--- all_private, laid, before-private, before-shared, in_private, from_private, private_is, part_at, private_laid, laid_hidden.
+-- all_private, laid, before-private, before-shared, in_private, from_private, private_is, laid_private, laid_hidden, part_at,
+-- private_laid.
 use Rattle.std.proofs.Common.{zero, suc, ◌≡◌, ℕ, ◌<◌, List, [], ◌∷◌, ◌++◌, true, false, ◌||◌, Some, length}
 use Rattle.std.proofs.Common.{get_or, append_assoc, ap, sym, ◌∙◌, refl, arith, subst, inl, inr, ◌⊎◌}
 use Rattle.std.specs.Prelude.{◌↔◌, slice_get, Contains}
@@ -113,14 +114,17 @@ module _ (net : Net) (reduced : List ReducedView) (parts : AreReducedOf net redu
       let agent : r.local.agent ≡ a = ap (λ (v : LocalView). v.agent) local in
       private_of_net r.local net (local ∙ ap (local_of net) (sym agent)) p ∙ ap (λ b. is_private_of net b p) agent
 
-  pub laid_hidden : (p : ℕ) → is_in (all_private (orders reduced)) p ≡ true → is_hidden net p ≡ true
-  laid_hidden p h =
+  pub laid_private : (p : ℕ) → is_in (all_private (orders reduced)) p ≡ true → (a : ℕ) × (is_private_of net a p ≡ true)
+  laid_private p h =
       let found = from_private reduced p h in
       let r = found.0 in
       let there = found.1 in
       let read = item_read reduced r there in
       let private = in_all (λ q. is_private_in r.local q ≡ true) r.order p (each there.0 r read).private found.2 in
-      private_hidden net there.0 p (sym (private_is there.0 r read p) ∙ private)
+      (there.0, sym (private_is there.0 r read p) ∙ private)
+
+  pub laid_hidden : (p : ℕ) → is_in (all_private (orders reduced)) p ≡ true → is_hidden net p ≡ true
+  laid_hidden p h = (let own = laid_private p h in private_hidden net own.0 p own.1)
 
   pub part_at : (a : ℕ) → a < length net.agents → (r : ReducedView) × Contains reduced r × (slice_get reduced a ≡ Some r)
   part_at a low =

@@ -15,3 +15,9 @@ pub mod SharedPairs
 pub mod PartBounds
 pub mod MadeParts
 pub mod IsolatedBounds
+pub mod Fills
+pub mod Hops
+pub mod HopWalks
+pub mod Gaps
+pub mod OrderPlaces
+mod Nexts

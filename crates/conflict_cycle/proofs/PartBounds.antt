@@ -1,10 +1,12 @@
 -- What the bounds of parts are in a network to which they belong: they are there exactly for joined pairs, and are the least ones: held_by, final_by,
--- bound_joined, bound_told, joined_bound, joined_told, least_told, unjoined_told.
-use Rattle.std.proofs.Common.{◌≡◌, ◌↔◌, ◌⊎◌, ℕ, ◌<◌, List, [], ◌∷◌, Bool, true, false, ◌||◌, not, nat_eq, Option, Some, None, IfSome, IfNone, length, get_or}
-use Rattle.std.proofs.Common.{ap, sym, ◌∙◌, refl, arith, subst, inl, inr}
+-- part_of, NoOwners, bound_joined, bound_told, joined_bound, joined_told, least_told, unjoined_told.
+use Rattle.std.proofs.Common.{◌≡◌, ◌≢◌, ◌↔◌, ◌⊎◌, ℕ, ◌<◌, List, [], ◌∷◌, Bool, true}
+use Rattle.std.proofs.Common.{false, ◌||◌, not, nat_eq, Option, Some, None, IfSome, IfNone, length, get_or}
+use Rattle.std.proofs.Common.{⊎_elim, ap, sym, ◌∙◌, refl, arith, subst, inl, inr}
 use Rattle.std.specs.Prelude.{ℤ, slice_get, is_some}
 use Rattle.std.specs.Option.{option_eq}
 use Rattle.std.proofs.Math.Bool.{or-true}
+use Rattle.std.proofs.lemmas.Bool.{cases_eq, false≢true}
 use Rattle.std.proofs.lemmas.Bool.Decides.{nat_tests}
 use Rattle.std.proofs.lemmas.List.{length-map}
 use Rattle.std.proofs.lemmas.Option.{slice_get-get_or, slice_get_within}
@@ -34,6 +36,7 @@ use Rattle.shared_graph.proofs.networks.Networks.{summaries_fit}
 use Rattle.shared_graph.specs.Replays.{plain_entries}
 use Rattle.shared_graph.specs.Weights.{final, is_joined}
 use Rattle.conflict_cycle.proofs.GraphFinals.{final_parts, held, all, whole, judged, consistent, visited_seen, order_shared, joined_final, seen_final}
+use Rattle.conflict_cycle.specs.Nexts.{HasPrivate}
 use Rattle.conflict_cycle.specs.PartOrders.{order_of}
 use Rattle.conflict_cycle.specs.Parts.{PartsView, BelongsTo, IsBackOf, IsParts}
 use Rattle.conflict_cycle.proofs.HiddenPaths.{edge_within}
@@ -64,40 +67,65 @@ final_by parts v is i j o h = h ∙ ap (λ (w : SharedView). final w.face w.stat
 
 module _ (net : Net) (valid : IsNetwork net) where
   -- an end of an arc that others do not see is a private point of an agent
-  hidden_owned : (p : ℕ) → p < point_count net → meets net p ≡ false → (a : ℕ) × (a < length net.agents) × (is_private_of net a p ≡ true)
+  hidden_owned : (p : ℕ) → p < point_count net → meets net p ≡ false
+      → (a : ℕ) × (a < length net.agents) × (is_private_of net a p ≡ true) × (owner_of net p ≡ Some a)
   hidden_owned p low out =
       let hidden : is_hidden net p ≡ true = ap not out in
       let other = (hidden_parts net p hidden).0 in
       let owner = owner_there net valid p other low in
       let own : is_owned_by net owner.0 p ≡ true = owned p owner.0 owner.2 in
-      (owner.0, owner.1, owned_hidden net owner.0 p own hidden) where
+      (owner.0, owner.1, owned_hidden net owner.0 p own hidden, owner.2) where
         owned : (p a : ℕ) → owner_of net p ≡ Some a → is_owned_by net a p ≡ true
         owned p a is = ap (λ o. option_eq nat_eq o (Some a)) is ∙ (let e : nat_eq a a ≡ true = grind (arith, nat_tests) in e)
 
+  -- the ends of a joined pair are points of the network
+  pub joined_ends : (order : List ℕ) (i j : ℕ) → IsJoined (arcs_of net) order i j → (i < point_count net) × (j < point_count net)
+  joined_ends order i j joined =
+      let first = first_edge (arcs_of net) i j joined.inner joined.path in
+      let last = last_edge (arcs_of net) i j joined.inner joined.path in
+      ((edge_within net valid i first.0 first.1).0, (edge_within net valid last.0 j last.1).1)
+
+  -- the owner of a point is an agent
+  pub owner_known : (p a : ℕ) → p < point_count net → owner_of net p ≡ Some a → a < length net.agents
+  owner_known p a low is =
+      ⊎_elim (λ (z : p ≡ 0). absurd (let none : owner_of net p ≡ None = ap (owner_of net) z in none_some (owner_of net p) a none is))
+      (λ (other : p ≢ 0).
+      let owner = owner_there net valid p other low in
+      let many = owner.1 in
+      let same : owner.0 ≡ a = one_number (owner_of net p) owner.0 a owner.2 is in
+      omega arith)
+      (cases_eq p 0)
+    where
+      none_some : (o : Option ℕ) (a : ℕ) → o ≡ None → o ≡ Some a → ⊥
+      none_some o a h g = absurd (cc)
+
+      one_number : (o : Option ℕ) (a b : ℕ) → o ≡ Some a → o ≡ Some b → a ≡ b
+      one_number o a b h g = cc
+
 module _ (parts : PartsView) (known : IsParts parts)
     (together : HoldsTogether parts.shared.face parts.shared.state) (net : Net) (belongs : BelongsTo net parts) where
-  abbrev s : State
+  abbrev pub s : State
   s = parts.shared.state
 
-  abbrev joins : ℕ → ℕ → Type 0
+  abbrev pub joins : ℕ → ℕ → Type 0
   joins i j = IsJoined (arcs_of net) (order_of parts.reduced s) i j
 
-  valid : IsNetwork net
+  pub valid : IsNetwork net
   valid = belongs.stands.network
 
-  shared_order : (p : ℕ) → is_in s.order p ≡ true → is_shared net p ≡ true
+  pub shared_order : (p : ℕ) → is_in s.order p ≡ true → is_shared net p ≡ true
   shared_order = order_shared net parts.shared belongs.stands known.ordered known.revisited together
 
-  net_held : HoldsTogether (interface_of net) s
+  pub net_held : HoldsTogether (interface_of net) s
   net_held = held net parts.shared belongs.stands known.ordered known.revisited together
 
-  net_all : IsAllPublished (interface_of net) s
+  pub net_all : IsAllPublished (interface_of net) s
   net_all = all net parts.shared belongs.stands known.ordered known.revisited together
 
-  net_whole : IsWhole (interface_of net) s
+  pub net_whole : IsWhole (interface_of net) s
   net_whole = whole net parts.shared belongs.stands known.ordered known.revisited together
 
-  journal_known : IsJournal (interface_of net) s parts.shared.journal
+  pub journal_known : IsJournal (interface_of net) s parts.shared.journal
   journal_known =
       let st = belongs.stands in
       let many = st.right.one_each in
@@ -118,10 +146,10 @@ module _ (parts : PartsView) (known : IsParts parts)
   net_judged : IsVerdictOn net parts.shared
   net_judged = judged net parts.shared belongs.stands known.ordered known.revisited together
 
-  net_consistent : IsConsistent (point_count net) (arcs_of net)
+  pub net_consistent : IsConsistent (point_count net) (arcs_of net)
   net_consistent = consistent net parts.shared belongs.stands known.ordered known.revisited together
 
-  final_joined : (i j : ℕ) (b : ℤ) → final parts.shared.face s i j ≡ Some b → joins i j
+  pub final_joined : (i j : ℕ) (b : ℤ) → final parts.shared.face s i j ≡ Some b → joins i j
   final_joined i j b is =
       let there = final_parts (interface_of net) s i j b (subst (λ f. final f s i j ≡ Some b) belongs.stands.face is) in
       let one = visited_seen net parts.shared belongs.stands known.ordered known.revisited together i there.1 in
@@ -129,26 +157,26 @@ module _ (parts : PartsView) (known : IsParts parts)
       (seen_pairs i j one two).1 there.0
 
   module _ (a : ℕ) (r : ReducedView) (v : BoundsView) (there : slice_get parts.reduced a ≡ Some r) (here : slice_get parts.bounds a ≡ Some v) where
-    local : r.local ≡ local_of net a
+    pub local : r.local ≡ local_of net a
     local = belongs.reduced.each a r there
 
-    agent : r.local.agent ≡ a
+    pub agent : r.local.agent ≡ a
     agent = ap (λ (l : LocalView). l.agent) local
 
-    own : r.local ≡ local_of net r.local.agent
+    pub own : r.local ≡ local_of net r.local.agent
     own = local ∙ ap (local_of net) (sym agent)
 
-    part : HasPart net r.local
+    pub part : HasPart net r.local
     part = has_part r.local net own
 
-    low : r.local.agent < length net.agents
+    pub low : r.local.agent < length net.agents
     low =
         let inside = slice_get_within parts.reduced a r there in
         let many = belongs.reduced.one_each in
         let is = agent in
         omega arith
 
-    back : IsBackOf parts.shared.face s r v
+    pub back : IsBackOf parts.shared.face s r v
     back = belongs.back a r v there here
 
     finals_hold : HoldsFinals net r.local.agent back.finals
@@ -170,13 +198,13 @@ module _ (parts : PartsView) (known : IsParts parts)
         (private_pairs_join net parts.reduced s valid belongs.reduced known.reduced shared_order a r there i j pair.private).1 pair.joined
 
     -- a bound of its back sweep
-    back_joined : (i j : ℕ) (b : ℤ) → bound_between v i j ≡ Some b → joins i j × IsLeastBound (point_count net) (arcs_of net) i j b
+    pub back_joined : (i j : ℕ) (b : ℤ) → bound_between v i j ≡ Some b → joins i j × IsLeastBound (point_count net) (arcs_of net) i j b
     back_joined i j b is =
         let pair = back.swept.only i j (ap is_some is) in
         (private_joined i j pair, subst (IsLeastIn net i j) is (private_least i j pair))
 
     -- a joined pair with a private point of the agent has one
-    back_there : (i j : ℕ) → joins i j → (is_private_in r.local i || is_private_in r.local j) ≡ true → bound_between v i j ≡ None → ⊥
+    pub back_there : (i j : ℕ) → joins i j → (is_private_in r.local i || is_private_in r.local j) ≡ true → bound_between v i j ≡ None → ⊥
     back_there i j joined private none =
         let pair : IsPrivatePair r i j = record {
           joined = (private_pairs_join net parts.reduced s valid belongs.reduced known.reduced shared_order a r there i j private).0 joined;
@@ -187,13 +215,18 @@ module _ (parts : PartsView) (known : IsParts parts)
     private_is : (p : ℕ) → is_private_of net a p ≡ true → is_private_in r.local p ≡ true
     private_is p h = private_of_part r.local net part p ∙ ap (λ k. is_private_of net k p) agent ∙ h
 
+  -- the reduced part of a back sweep
+  pub part_of : (a : ℕ) (v : BoundsView) → slice_get parts.bounds a ≡ Some v → (r : ReducedView) × (slice_get parts.reduced a ≡ Some r)
+  part_of a v here =
+      let inside = slice_get_within parts.bounds a v here in
+      let many = belongs.one_each in
+      item_at parts.reduced a (omega arith)
+
   -- what a bound of some back sweep is
   pub bound_joined : (a : ℕ) (v : BoundsView) (i j : ℕ) (b : ℤ) → slice_get parts.bounds a ≡ Some v → bound_between v i j ≡ Some b
       → joins i j × IsLeastBound (point_count net) (arcs_of net) i j b
   bound_joined a v i j b here is =
-      let inside = slice_get_within parts.bounds a v here in
-      let many = belongs.one_each in
-      let r = item_at parts.reduced a (omega arith) in
+      let r = part_of a v here in
       back_joined a r.0 v r.1 here i j b is
 
   -- the same where it is found
@@ -203,39 +236,64 @@ module _ (parts : PartsView) (known : IsParts parts)
   bound_told i j None there found = absurd (cc)
   bound_told i j (Some b) there found = bound_joined found.0 found.1.0 i j b found.1.1 found.1.2
 
-  -- a joined pair with a point that others do not see has one
-  hidden_there : (i j p : ℕ) → joins i j → p < point_count net → meets net p ≡ false → (p ≡ i) ⊎ (p ≡ j)
-      → ((a : ℕ) (v : BoundsView) → slice_get parts.bounds a ≡ Some v → bound_between v i j ≡ None) → ⊥
-  hidden_there i j p joined lt out which none =
+  -- the back sweeps of the owners of two points have no bound between them
+  abbrev pub NoOwners : ℕ → ℕ → Type 0
+  NoOwners i j =
+      (a : ℕ) (v : BoundsView) → (owner_of net i ≡ Some a) ⊎ (owner_of net j ≡ Some a) → slice_get parts.bounds a ≡ Some v → bound_between v i j ≡ None
+
+  -- a joined pair with a point that others do not see has one, by that point's owner
+  pub hidden_bound : (i j p : ℕ) → joins i j → p < point_count net → meets net p ≡ false → (p ≡ i) ⊎ (p ≡ j)
+      → (a : ℕ) × (v : BoundsView) × (slice_get parts.bounds a ≡ Some v) × (is_some (bound_between v i j) ≡ true) × (owner_of net p ≡ Some a)
+  hidden_bound i j p joined lt out which =
       let own = hidden_owned net valid p lt out in
       let agents = belongs.reduced.one_each in
       let many = belongs.one_each in
       let known_low = own.1 in
       let r = item_at parts.reduced own.0 (omega arith) in
       let v = item_at parts.bounds own.0 (omega arith) in
-      back_there own.0 r.0 v.0 r.1 v.1 i j joined (private_one r.0 (private_is own.0 r.0 v.0 r.1 v.1 p own.2) which) (none own.0 v.0 v.1) where
+      let lost = back_there own.0 r.0 v.0 r.1 v.1 i j joined (private_one r.0 (private_is own.0 r.0 v.0 r.1 v.1 p own.2) which) in
+      (own.0, v.0, v.1, there (bound_between v.0 i j) lost, own.3) where
         private_one : (r : ReducedView) → is_private_in r.local p ≡ true → (p ≡ i) ⊎ (p ≡ j) → (is_private_in r.local i || is_private_in r.local j) ≡ true
         private_one r h (inl is) = ap (λ b. b || is_private_in r.local j) (ap (is_private_in r.local) (sym is) ∙ h)
         private_one r h (inr is) =
             ap (λ b. is_private_in r.local i || b) (ap (is_private_in r.local) (sym is) ∙ h) ∙ or-true (is_private_in r.local i)
 
+        there : (o : Option ℤ) → (o ≡ None → ⊥) → is_some o ≡ true
+        there None lost = absurd (lost refl)
+        there (Some b) lost = refl
+
+  hidden_there : (i j p : ℕ) → joins i j → p < point_count net → meets net p ≡ false → (p ≡ i) ⊎ (p ≡ j) → NoOwners i j → ⊥
+  hidden_there i j p joined lt out which none =
+      let found = hidden_bound i j p joined lt out which in
+      false≢true (sym (ap is_some (none found.0 found.1 (owned_one found.0 found.4 which) found.2)) ∙ found.3) where
+        owned_one : (a : ℕ) → owner_of net p ≡ Some a → (p ≡ i) ⊎ (p ≡ j) → (owner_of net i ≡ Some a) ⊎ (owner_of net j ≡ Some a)
+        owned_one a h (inl is) = inl (subst (λ q. owner_of net q ≡ Some a) is h)
+        owned_one a h (inr is) = inr (subst (λ q. owner_of net q ≡ Some a) is h)
+
+  -- a joined pair has a bound of a back sweep, or a final bound
+  pub joined_either : (i j : ℕ) → joins i j → HasPrivate parts.bounds i j ⊎ (is_some (final parts.shared.face s i j) ≡ true)
+  joined_either i j joined = go (meets net i) (meets net j) refl refl where
+    by_sweep : (p : ℕ) → p < point_count net → meets net p ≡ false → (p ≡ i) ⊎ (p ≡ j) → HasPrivate parts.bounds i j
+    by_sweep p lt out which = (let found = hidden_bound i j p joined lt out which in (found.0, found.1, found.2, found.3))
+
+    go : (x y : Bool) → meets net i ≡ x → meets net j ≡ y → HasPrivate parts.bounds i j ⊎ (is_some (final parts.shared.face s i j) ≡ true)
+    go true true one two =
+        (let b = joined_final net parts.shared belongs.stands known.ordered known.revisited together i j one two
+        ((seen_pairs i j one two).0 joined) in
+        inr (ap is_some b.1))
+    go false y one two = inl (by_sweep i (joined_ends net valid (order_of parts.reduced s) i j joined).0 one (inl refl))
+    go true false one two = inl (by_sweep j (joined_ends net valid (order_of parts.reduced s) i j joined).1 two (inr refl))
+
   -- a joined pair without such a bound has a final bound
-  pub joined_bound : (i j : ℕ) → ((a : ℕ) (v : BoundsView) → slice_get parts.bounds a ≡ Some v → bound_between v i j ≡ None) → joins i j
-      → is_some (final parts.shared.face s i j) ≡ true
+  pub joined_bound : (i j : ℕ) → NoOwners i j → joins i j → is_some (final parts.shared.face s i j) ≡ true
   joined_bound i j none joined = go (meets net i) (meets net j) refl refl where
-    first : (x : ℕ) × HasEdge (arcs_of net) i x
-    first = first_edge (arcs_of net) i j joined.inner joined.path
-
-    last : (x : ℕ) × HasEdge (arcs_of net) x j
-    last = last_edge (arcs_of net) i j joined.inner joined.path
-
     go : (x y : Bool) → meets net i ≡ x → meets net j ≡ y → is_some (final parts.shared.face s i j) ≡ true
     go true true one two =
         (let b = joined_final net parts.shared belongs.stands known.ordered known.revisited together i j one two
         ((seen_pairs i j one two).0 joined) in
         ap is_some b.1)
-    go false y one two = absurd (hidden_there i j i joined (edge_within net valid i first.0 first.1).0 one (inl refl) none)
-    go true false one two = absurd (hidden_there i j j joined (edge_within net valid last.0 j last.1).1 two (inr refl) none)
+    go false y one two = absurd (hidden_there i j i joined (joined_ends net valid (order_of parts.reduced s) i j joined).0 one (inl refl) none)
+    go true false one two = absurd (hidden_there i j j joined (joined_ends net valid (order_of parts.reduced s) i j joined).1 two (inr refl) none)
 
   -- the same of a final bound that is read
   pub joined_told : (i j : ℕ) (o : Option ℤ) → o ≡ final parts.shared.face s i j → is_some o ≡ true → joins i j
@@ -247,5 +305,5 @@ module _ (parts : PartsView) (known : IsParts parts)
 
   pub unjoined_told : (i j : ℕ) (private o : Option ℤ) → is_some private ≡ false → o ≡ final parts.shared.face s i j
       → IfNone private ((a : ℕ) (v : BoundsView) → slice_get parts.bounds a ≡ Some v → bound_between v i j ≡ None) → joins i j → is_some o ≡ true
-  unjoined_told i j None o none is absent joined = ap is_some is ∙ joined_bound i j absent joined
+  unjoined_told i j None o none is absent joined = ap is_some is ∙ joined_bound i j (λ a v which here. absent a v here) joined
   unjoined_told i j (Some b) o none is absent joined = absurd (cc)

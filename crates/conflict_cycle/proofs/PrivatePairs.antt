@@ -2,7 +2,7 @@
 --   joined_turned                       the order of two joined points does not matter
 --   IsPartOf                            some of the arcs, and a part of a laid order, where the edges at its points are edges of the part
 --   joined_in_part, joined_in_whole     the same pairs are joined in the part and in the whole
---   private_pairs                       so it is in the order of all points of a network
+--   private_before, private_pairs       so it is in the order of all points of a network, which keeps what comes before what
 --   private_pairs_join                  the law
 use Rattle.conflict_cycle.specs.PrivatePairs.{PrivatePairsJoin}
 use Rattle.std.proofs.Common.{◌≡◌, ℕ, List, [], ◌∷◌, ◌++◌, true, false, ◌||◌, nat_eq, Option, Some, None}
@@ -135,13 +135,13 @@ module _ (net : Net) (reduced : List ReducedView) (s : State) (known : AreReduce
     agent_is = ap (λ (v : LocalView). v.agent) (known.each a r there)
 
     -- the arcs of the part are own arcs, and its private points, which are those of its order, private points of the agent
-    part_arcs : arcs_in r.local ≡ own_arcs net a
+    pub part_arcs : arcs_in r.local ≡ own_arcs net a
     part_arcs = arcs_of_net r.local net local_is ∙ ap (own_arcs net) agent_is
 
-    part_private : (p : ℕ) → is_private_in r.local p ≡ is_private_of net a p
+    pub part_private : (p : ℕ) → is_private_in r.local p ≡ is_private_of net a p
     part_private = private_is net reduced known parts a r there
 
-    order_private : (p : ℕ) → is_in r.order p ≡ true → is_private_of net a p ≡ true
+    pub order_private : (p : ℕ) → is_in r.order p ≡ true → is_private_of net a p ≡ true
     order_private p here =
         sym (part_private p) ∙ in_all (λ p. is_private_in r.local p ≡ true) r.order p (parts a r there).private here
 
@@ -178,6 +178,15 @@ module _ (net : Net) (reduced : List ReducedView) (s : State) (known : AreReduce
       there = net_edge net a;
       ends = λ p q edge. (let both = edge_ends net a p q edge in (not_in_front p both.0, not_in_front q both.1));
     }
+
+    -- what comes before a joined point in the part does so in the order of all points
+    pub private_before : (p q : ℕ) → IsJoined (arcs_in r.local) r.order p q → ComesBefore r.order p q → ComesBefore (order_of reduced s) p q
+    private_before p q joined before =
+        let l = laid a r there in
+        let own = subst (λ arcs. IsJoined arcs r.order p q) (part_arcs a r there) joined in
+        let ends = path_ends (arcs_of net) (own_arcs net a) l.front r.order l.rest agent_part p q own.inner own.path in
+        subst (λ order. ComesBefore order p q) (sym l.is)
+        (whole_before l.front r.order l.rest agent_part.apart p q (part_first r.order p q before) ends.1 before)
 
     pub private_pairs : (i j : ℕ) → (is_private_in r.local i || is_private_in r.local j) ≡ true
         → IsJoined (arcs_of net) (order_of reduced s) i j ↔ IsJoined (arcs_in r.local) r.order i j

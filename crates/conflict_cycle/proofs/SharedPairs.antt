@@ -145,7 +145,7 @@ module _ (net : Net) (valid : IsNetwork net) (reduced : List ReducedView) (parts
       is_meeting = state_meeting net valid (told_by reduced) right_parts s parts_listed all
 
       -- a point that meets is in the order in which shared points were eliminated, or z
-      meets_laid : (p : ℕ) → meets net p ≡ true → (is_in (reverse s.order) p ≡ true) ⊎ (p ≡ 0)
+      pub meets_laid : (p : ℕ) → meets net p ≡ true → (is_in (reverse s.order) p ≡ true) ⊎ (p ≡ 0)
       meets_laid p h =
           elim (or_cases (nat_eq p 0) (is_shared net p) h) [
             | inl z ↦ inr (grind (arith, nat_tests))
@@ -153,7 +153,7 @@ module _ (net : Net) (valid : IsNetwork net) (reduced : List ReducedView) (parts
           ]
 
       -- what is not hidden is in no private order
-      shown_away : (p : ℕ) → is_hidden net p ≡ false → is_in (all_private (orders reduced)) p ≡ false
+      pub shown_away : (p : ℕ) → is_hidden net p ≡ false → is_in (all_private (orders reduced)) p ≡ false
       shown_away p h =
           elim (is_in (all_private (orders reduced)) p) as (λ b. is_in (all_private (orders reduced)) p ≡ b → b ≡ false) [
             | true ↦ λ t. absurd (false≢true (sym h ∙ laid_hidden net reduced parts each p t))

@@ -4,3 +4,5 @@ pub mod SharedPairs
 pub mod PrivatePairs
 pub mod Parts
 pub mod Isolated
+pub mod Edges
+pub mod Nexts

@@ -8,6 +8,7 @@ use Rattle.elim_step.specs.Summaries.{entry_in}
 use Rattle.private_elim.specs.Backs.{BoundsView, bound_between}
 use Rattle.private_elim.specs.Laws.{AreSwept}
 use Rattle.private_elim.specs.ReducedViews.{ReducedView}
+use Rattle.private_elim.specs.Throughs.{CameThrough}
 use Rattle.shared_graph.specs.declared.events.Phase.TheVariants.{Order, Reverse}
 use Rattle.shared_graph.specs.Histories.{SharedView}
 use Rattle.shared_graph.specs.Interfaces.{InterfaceView, Summary}
@@ -25,11 +26,12 @@ AreFound face s summary = (i j : ℕ) → is_some (entry_in summary i j) ≡ tru
 abbrev pub AreFinalsOf : InterfaceView → State → Summary → List SummaryEntry → Type 0
 AreFinalsOf face s summary finals = (i j : ℕ) → is_some (entry_in summary i j) ≡ true → entry_in finals i j ≡ final face s i j
 
--- the bounds are the back sweep of the part on the final bounds of its summary's pairs
+-- the bounds are the back sweep of the part on the final bounds of its summary's pairs, and each came through a later neighbour
 pub record IsBackOf (face : InterfaceView) (s : State) (r : ReducedView) (b : BoundsView) : Type 0 where
   pub finals : List SummaryEntry
   pub hold : AreFinalsOf face s r.summary finals
   pub swept : AreSwept r finals (bound_between b)
+  pub came : (i j : ℕ) → is_some (bound_between b i j) ≡ true → CameThrough r finals b i j
 
 -- the reduced parts, the graph, and the back sweeps
 pub record PartsView : Type 0 where

@@ -67,7 +67,7 @@ fn closed_walk(
 }
 
 // The numbers of the external arcs, by place.
-fn external_numbers(alloc: Global, net: &Network) -> Result<Vec<u32>, OutOfMemory>
+pub(crate) fn external_numbers(alloc: Global, net: &Network) -> Result<Vec<u32>, OutOfMemory>
     ensures valid { IsNetwork net.now }
     ensures numbers { IfOk result (λ ns. AreExternalNumbers net.now ns.items) }
 {
@@ -99,7 +99,7 @@ fn is_external(net: &Network, arc: Constraint) -> bool
 }
 
 // Adds a walk of the network's arcs from one point to another that weighs as much as their forward weight.
-fn add_walk(
+pub(crate) fn add_walk(
     alloc: Global,
     shared: &Shared,
     reduced: &[Reduced],

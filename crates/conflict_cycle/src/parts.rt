@@ -1,11 +1,14 @@
 //! What is known of a network once all its points are eliminated and revisited.
-ghost use Rattle.std.specs.Prelude.{◌≡◌, ◌↔◌, ℕ, [], true, map, slice_get, Some, None, is_some, IfOk, IfSome, IfNone};
+ghost use Rattle.std.specs.Prelude.{◌≡◌, ◌↔◌, ℕ, ◌<◌, [], true, map, slice_get, Some, None, is_some, IfOk, IfSome, IfNone};
+ghost use Rattle.std.specs.Option.{option_map};
 ghost use Rattle.stn_model.specs.Joined.{IsJoined};
 ghost use Rattle.stn_model.specs.Net.{arcs_of, point_count};
 ghost use Rattle.stn_model.specs.Schedules.{IsLeastBound};
+ghost use Rattle.dist_rows.specs.Cells.{IsAbove};
 ghost use Rattle.private_elim.specs.Backs.{BoundsView, bound_between};
 ghost use Rattle.shared_graph.specs.declared.events.Phase.TheVariants.{Order, Reverse};
 ghost use Rattle.shared_graph.specs.Journals.{IsDone};
+ghost use Rattle.conflict_cycle.specs.Nexts.{IsNext, HasPrivate, lesser_of};
 ghost use Rattle.conflict_cycle.specs.PartOrders.{AreReduced, order_of};
 ghost use Rattle.conflict_cycle.specs.Parts.{BelongsTo, IsParts, OfBelonging};
 
@@ -76,6 +79,13 @@ impl Parts {
         &self.shared
     }
 
+    // The back sweeps, by agent.
+    pub(crate) fn bounds(&self) -> &[PrivateBounds]
+        ensures { result.now ≡ self.now.bounds }
+    {
+        self.bounds.as_slice()
+    }
+
     /// The least bound on `time(j) - time(i)`, in the network's unit of time. None exactly where the points are equal or not joined: two different
     /// points are joined where arcs, taken without direction, have a path between them whose inner points all come before both in the order. Takes no
     /// memory, and a look at each agent's part.
@@ -108,6 +118,34 @@ impl Parts {
         None
     }
 
+    /// The least point above `after`, or of all points where that is None, that is joined with `i`: so the points to which there is a bound are met one by
+    /// one. None exactly where there is no such point. Takes no memory, and a look at each agent's part.
+    pub fn next(&self, i: PointId, after: Option<PointId>) -> Option<PointId>
+        ensures some { OfBelonging self.now (λ net. IfSome result (λ p. IsAbove p.0 (option_map (λ p. p.0) after)
+            × IsJoined (arcs_of net) (order_of self.now.reduced self.now.shared.state) i.0 p.0)) }
+        ensures least { OfBelonging self.now (λ net. IfSome result (λ p. (q : ℕ) → q < p.0 → IsAbove q (option_map (λ p. p.0) after)
+            → IsJoined (arcs_of net) (order_of self.now.reduced self.now.shared.state) i.0 q → ⊥)) }
+        ensures none { OfBelonging self.now (λ net. IfNone result ((q : ℕ) → IsAbove q (option_map (λ p. p.0) after)
+            → IsJoined (arcs_of net) (order_of self.now.reduced self.now.shared.state) i.0 q → ⊥)) }
+    {
+        let shared = self.shared();
+        // With the interface comes that the graph holds together.
+        let _face = shared.interface();
+        let private = self.next_private(i, after);
+        lesser(private, shared.next_final(i, after))
+    }
+
+    // The least of the points to which some back sweep has a bound.
+    fn next_private(&self, i: PointId, after: Option<PointId>) -> Option<PointId>
+        ensures { IsNext (HasPrivate self.now.bounds i.0) (option_map (λ p. p.0) after) (option_map (λ p. p.0) result) }
+    {
+        let mut least = None;
+        for bounds in self.bounds.as_slice() {
+            least = lesser(least, bounds.next(i, after));
+        }
+        least
+    }
+
     /// Equal parts, or OutOfMemory.
     pub fn copy(&self, alloc: Global) -> Result<Parts, OutOfMemory>
         ensures { IfOk result (λ p. p ≡ self.now) }
@@ -133,6 +171,17 @@ impl Parts {
         order.extend_from_slice(self.shared.order())?;
         order.push(PointId(0))?;
         Ok(order)
+    }
+}
+
+// The lesser of two points, or the one that is there.
+fn lesser(p: Option<PointId>, q: Option<PointId>) -> Option<PointId>
+    ensures { option_map (λ p. p.0) result ≡ lesser_of (option_map (λ p. p.0) p) (option_map (λ p. p.0) q) }
+{
+    match (p, q) {
+        (None, q) => q,
+        (p, None) => p,
+        (Some(p), Some(q)) => Some(if q.0 < p.0 { q } else { p }),
     }
 }
 

@@ -10,10 +10,10 @@ ghost use Rattle.shared_graph.specs.declared.events.Phase.TheVariants.{Order, Re
 ghost use Rattle.shared_graph.specs.Journals.{IsDone, StandsFor};
 ghost use Rattle.shared_graph.specs.Weights.{final};
 ghost use Rattle.conflict_cycle.specs.Belongs.{AreReducedOf, ArePublishedOf};
-ghost use Rattle.conflict_cycle.specs.Parts.{AreFinalsOf, IsBackOf};
+ghost use Rattle.conflict_cycle.specs.Parts.{AreFinalsOf, BelongsTo, IsBackOf};
 
-use crate::join_cycle;
 use crate::parts::{Parts, know_reduced};
+use crate::{edge_walk, join_cycle};
 use elim_step::{Picker, Summary, SummaryEntry};
 use private_elim::{Local, PrivateBounds, PrivateOutcome, Reduced, back_sweep, eliminate_private};
 use sample_nets::handover;
@@ -192,7 +192,9 @@ fn swept(alloc: Global, shared: &Shared, reduced: &[Reduced]) -> Result<Vec<Priv
 }
 
 // All parts of a network that has a schedule.
-fn parts_of(alloc: Global, net: &Network) -> Result<Parts, Fail> {
+fn parts_of(alloc: Global, net: &Network) -> Result<Parts, Fail>
+    ensures { IfOk result (BelongsTo net.now) }
+{
     let reduced = all_reduced(alloc, net)?;
     let shared = revisited(alloc, net, reduced.as_slice())?;
     let bounds = swept(alloc, &shared, reduced.as_slice())?;
@@ -241,5 +243,59 @@ fn parts_have_least_bounds(rt: HostRuntime) -> Result<(), Fail> {
     assert_eq!(rt; order.as_slice(), wanted.as_slice());
     assert_eq!(rt; copy.reduced().len(), 2);
     assert_eq!(rt; copy.shared().journal().len(), 6);
+    Ok(())
+}
+
+// The walk of the least bound between two points; None where they are not joined.
+fn walk_between(
+    alloc: Global,
+    net: &Network,
+    parts: &Parts,
+    i: PointId,
+    j: PointId,
+) -> Result<Option<Walk>, Fail>
+    requires { BelongsTo net.now parts.now }
+{
+    if parts.bound(i, j).is_none() {
+        return Ok(None);
+    }
+    Ok(Some(edge_walk(alloc, net, parts, i, j)?))
+}
+
+#[test]
+fn least_bounds_have_walks(rt: HostRuntime) -> Result<(), Fail> {
+    let net = handover(rt.alloc())?;
+    let parts = parts_of(rt.alloc(), &net)?;
+    let rows = [
+        (0, 3, [8, 9, 11].as_slice()),
+        (3, 0, [12, 10, 1].as_slice()),
+        (1, 4, [].as_slice()),
+    ];
+    for (i, j, wanted) in rows {
+        match walk_between(rt.alloc(), &net, &parts, PointId(i), PointId(j))? {
+            None => assert!(rt; wanted.is_empty(), "no walk from {i} to {j}"),
+            Some(walk) => assert_eq!(rt; walk.arcs(), wanted, "from {i} to {j}"),
+        }
+    }
+    Ok(())
+}
+
+#[test]
+fn joined_points_are_met(rt: HostRuntime) -> Result<(), Fail> {
+    let net = handover(rt.alloc())?;
+    let parts = parts_of(rt.alloc(), &net)?;
+    let rows = [
+        (None, Some(0)),
+        (Some(0), Some(1)),
+        (Some(1), Some(3)),
+        (Some(3), None),
+    ];
+    for (after, wanted) in rows {
+        assert_eq!(rt;
+            parts.next(PointId(2), after.map(PointId)),
+            wanted.map(PointId),
+            "after {after:?}"
+        );
+    }
     Ok(())
 }

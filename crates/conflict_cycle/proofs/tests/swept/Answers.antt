@@ -14,4 +14,5 @@ loop-part-preserved c =
       finals = finals;
       hold = subst (λ (summary : Summary). AreFinalsOf face s summary finals) c.summary.ensures.value c.in_ok-finals.ensures;
       swept = record { only = c.in_ok-back_sweep.ensures.only; least = c.in_ok-back_sweep.ensures.least };
+      came = c.in_ok-back_sweep.ensures.through;
     }) c.loop-part.invariant
