@@ -3,3 +3,7 @@ pub mod Listings
 pub mod Sections
 pub mod Solves
 pub mod Belongs
+pub mod BoundLists
+pub mod LeastWalks
+pub mod OrderPoints
+pub mod LaidBounds

@@ -1,2 +1,5 @@
 pub mod Joins
 pub mod Answers
+pub mod LeastBounds
+pub mod LeastProofs
+pub mod Points

@@ -1,8 +1,9 @@
 //! A network with the record of how it was solved.
-ghost use Rattle.std.specs.Prelude.{◌≡◌, ◌↔◌, true, map, IfSome, is_some};
+ghost use Rattle.std.specs.Prelude.{◌≡◌, ◌↔◌, ◌<◌, ℕ, true, map, IfSome, IfNone, is_some, option_map};
 ghost use Rattle.stn_model.specs.Joined.{IsJoined as IsJoinedPair};
 ghost use Rattle.stn_model.specs.Net.{arcs_of, point_count};
 ghost use Rattle.stn_model.specs.Schedules.{IsLeastBound};
+ghost use Rattle.dist_rows.specs.Cells.{IsAbove};
 ghost use Rattle.joined_answer.specs.Joins.{IsJoined};
 
 use conflict_cycle::Parts;
@@ -62,5 +63,18 @@ impl Joined {
         ensures least { IfSome result (λ b. IsLeastBound (point_count self.now.network) (arcs_of self.now.network) i.0 j.0 b) }
     {
         self.parts.bound(i, j)
+    }
+
+    /// The least point above `after`, or of all where that is None, that the order joins with `i`; None where no such point is joined with it. Takes
+    /// no memory, and a look at each agent's part.
+    pub fn next(&self, i: PointId, after: Option<PointId>) -> Option<PointId>
+        ensures some { IfSome result (λ p. IsAbove p.0 (option_map (λ p. p.0) after)
+            × IsJoinedPair (arcs_of self.now.network) (map (λ p. p.0) self.now.order) i.0 p.0) }
+        ensures least { IfSome result (λ p. (q : ℕ) → q < p.0 → IsAbove q (option_map (λ p. p.0) after)
+            → IsJoinedPair (arcs_of self.now.network) (map (λ p. p.0) self.now.order) i.0 q → ⊥) }
+        ensures none { IfNone result ((q : ℕ) → IsAbove q (option_map (λ p. p.0) after)
+            → IsJoinedPair (arcs_of self.now.network) (map (λ p. p.0) self.now.order) i.0 q → ⊥) }
+    {
+        self.parts.next(i, after)
     }
 }
