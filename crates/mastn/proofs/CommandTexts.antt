@@ -1,44 +1,55 @@
--- What commands say, one after another, and the least windows that they tell: said_none, said_more, said_all, windows_none, windows_more, windows_all,
--- windows_known.
+-- What commands say, one after another, and the least windows that they tell: said_none, said_more, said_all, command_of, windows_none,
+-- windows_more, windows_all, windows_known.
 use Rattle.std.proofs.Common.{◌≡◌, ℕ, ◌+◌, ◌-◌, ◌<◌, ◌≤◌, List, [], ◌∷◌, ◌++◌, Some, length, take, get_or, length-append, ap, sym, ◌∙◌, refl, arith, subst}
 use Rattle.std.proofs.Common.{inl, inr, append_assoc, append-nil}
 use Rattle.std.specs.Prelude.{slice_get}
 use Rattle.std.specs.List.{All}
 use Rattle.std.proofs.lemmas.Bool.{cases_lt}
 use Rattle.std.proofs.lemmas.List.{take_more, take_all, get_or_append_left, get_or-append_right}
+use Rattle.std.proofs.lemmas.List.Elements.{All-from_recursion}
 use Rattle.std.proofs.lemmas.Option.{slice_get-get_or, slice_get_within, get_or_from_slice_get}
 use Rattle.stn_model.specs.Net.{Net, point_count}
 use Rattle.script_text.specs.declared.command.Command.{Command}
+use Rattle.script_text.specs.Possible.{IsCommandOf, IsScriptOf}
 use Rattle.schedule_report.specs.declared.window.Window3.{Window3}
 use Rattle.mastn.specs.Commands.{IsLeastWindow, AreLeastWindows, SaysCommand, SaysCommands}
 
 -- one command more
-said_behind : (net : Net) (commands : List Command) (c : Command) (said first : List ℕ) → SaysCommands net commands said → SaysCommand net c first
-    → SaysCommands net (commands ++ c ∷ []) (said ++ first)
-said_behind net [] c said first none h =
+said_behind : (net : Net) (order : List ℕ) (commands : List Command) (c : Command) (said first : List ℕ) → SaysCommands net order commands said
+    → SaysCommand net order c first → SaysCommands net order (commands ++ c ∷ []) (said ++ first)
+said_behind net order [] c said first none h =
     (first, ([], h, refl, ap (λ (xs : List ℕ). xs ++ first) none ∙ sym (append-nil first)))
-said_behind net (d ∷ commands) c said first (one, rest) h =
-    (one, (rest.0 ++ first, rest.1, said_behind net commands c rest.0 first rest.2 h, ap (λ (xs : List ℕ). xs ++ first) rest.3 ∙ append_assoc one rest.0 first))
+said_behind net order (d ∷ commands) c said first (one, rest) h = (
+  one,
+  (rest.0 ++ first, rest.1, said_behind net order commands c rest.0 first rest.2 h, ap (λ (xs : List ℕ). xs ++ first) rest.3 ∙ append_assoc one rest.0 first),
+)
 
 -- what the first n commands say has been appended
-abbrev pub IsSaid : Net → List Command → ℕ → List ℕ → List ℕ → Type 0
-IsSaid net commands n old new = (said : List ℕ) × SaysCommands net (take n commands) said × (new ≡ old ++ said)
+abbrev pub IsSaid : Net → List ℕ → List Command → ℕ → List ℕ → List ℕ → Type 0
+IsSaid net order commands n old new = (said : List ℕ) × SaysCommands net order (take n commands) said × (new ≡ old ++ said)
 
-pub said_none : (net : Net) (commands : List Command) (old : List ℕ) → IsSaid net commands 0 old old
-said_none net commands old = ([], refl, sym (append-nil old))
+pub said_none : (net : Net) (order : List ℕ) (commands : List Command) (old : List ℕ) → IsSaid net order commands 0 old old
+said_none net order commands old = ([], refl, sym (append-nil old))
 
-pub said_more : (net : Net) (commands : List Command) (n : ℕ) (c : Command) (old middle new first : List ℕ) → n < length commands
-    → c ≡ get_or commands n c → IsSaid net commands n old middle → SaysCommand net c first → new ≡ middle ++ first → IsSaid net commands (n + 1) old new
-said_more net commands n c old middle new first low is (said, says, so) h grown = (
+pub said_more : (net : Net) (order : List ℕ) (commands : List Command) (n : ℕ) (c : Command) (old middle new first : List ℕ) → n < length commands
+    → c ≡ get_or commands n c → IsSaid net order commands n old middle → SaysCommand net order c first → new ≡ middle ++ first
+    → IsSaid net order commands (n + 1) old new
+said_more net order commands n c old middle new first low is (said, says, so) h grown = (
   said ++ first,
-  subst (λ cs. SaysCommands net cs (said ++ first)) (ap (λ (x : Command). take n commands ++ x ∷ []) is ∙ sym (take_more commands n c low))
-      (said_behind net (take n commands) c said first says h),
+  subst (λ cs. SaysCommands net order cs (said ++ first)) (ap (λ (x : Command). take n commands ++ x ∷ []) is ∙ sym (take_more commands n c low))
+      (said_behind net order (take n commands) c said first says h),
   grown ∙ ap (λ (xs : List ℕ). xs ++ first) so ∙ append_assoc old said first,
 )
 
-pub said_all : (net : Net) (commands : List Command) (n : ℕ) (old new : List ℕ) → length commands ≤ n → IsSaid net commands n old new
-    → (said : List ℕ) × SaysCommands net commands said × (new ≡ old ++ said)
-said_all net commands n old new past (said, says, so) = (said, subst (λ cs. SaysCommands net cs said) (take_all n commands past) says, so)
+pub said_all : (net : Net) (order : List ℕ) (commands : List Command) (n : ℕ) (old new : List ℕ) → length commands ≤ n
+    → IsSaid net order commands n old new → (said : List ℕ) × SaysCommands net order commands said × (new ≡ old ++ said)
+said_all net order commands n old new past (said, says, so) =
+    (said, subst (λ cs. SaysCommands net order cs said) (take_all n commands past) says, so)
+
+-- each command of a script is one of the network
+pub command_of : (net : Net) (commands : List Command) (n : ℕ) (c : Command) → n < length commands → c ≡ get_or commands n c → IsScriptOf net commands
+    → IsCommandOf net c
+command_of net commands n c low is h = subst (IsCommandOf net) (sym is) (All-from_recursion (IsCommandOf net) commands h.commands n c low)
 
 -- the windows of the points from 1 to below n
 pub record AreWindowsBelow (net : Net) (n : ℕ) (windows : List Window3) : Type 0 where

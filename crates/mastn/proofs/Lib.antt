@@ -1,4 +1,5 @@
 mod CommandTexts
+mod BoundTexts
 mod OriginBounds
 mod Answering
 mod Digits

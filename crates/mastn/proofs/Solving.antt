@@ -1,6 +1,7 @@
 -- What is said of a network that was solved.
-use Rattle.std.proofs.Common.{◌≡◌, ℕ, List, [], ◌∷◌, Some}
+use Rattle.std.proofs.Common.{◌≡◌, ℕ, List, [], ◌∷◌, map, Some, subst}
 use Rattle.std.specs.Prelude.{reverse, slice_index_or}
+use Rattle.stn_model.specs.declared.ids.PointId.{PointId}
 use Rattle.stn_model.specs.Net.{Net, arcs_of, point_count}
 use Rattle.stn_model.specs.Schedules.{IsConsistent}
 use Rattle.stn_model.proofs.WalkLemmas.{no_schedule}
@@ -8,7 +9,7 @@ use Rattle.elim_step.proofs.Finds.{picks_weaker}
 use Rattle.private_elim.specs.Locals.{LocalView, local_of}
 use Rattle.private_elim.specs.Picked.{ArePicked}
 use Rattle.elim_journal.specs.Sections.{SectionView}
-use Rattle.joined_answer.specs.Joins.{IsLegalSection, ArePickedOrders}
+use Rattle.joined_answer.specs.Joins.{IsLegalSection, ArePickedOrders, joined_order}
 use Rattle.script_text.specs.declared.command.Command.{Command}
 use Rattle.mastn.specs.Commands.{SaysCommands}
 use Rattle.mastn.specs.declared.answer.Outcome.TheVariants.{Done, Inconsistent}
@@ -38,11 +39,19 @@ module _ (answers other : ℕ → ℕ → ℕ → Type 0) (weaker : (degree numb
     picked = λ a lt. ArePicked-weaker (local_of net a) (reverse (slice_index_or h.orders a [])) (h.picked a lt);
   }
 
+-- what is said of the order is said of that of the record
+pub says_order : (net network : Net) (section : SectionView) (order : List PointId) (commands : List Command) (said : List ℕ) → network ≡ net
+    → order ≡ joined_order section → SaysCommands network (map (λ p. p.0) order) commands said
+    → SaysCommands net (map (λ p. p.0) (joined_order section)) commands said
+says_order net network section order commands said same ordered says =
+    subst (λ (n : Net). SaysCommands n (map (λ p. p.0) (joined_order section)) commands said) same
+    (subst (λ (ps : List PointId). SaysCommands network (map (λ p. p.0) ps) commands said) ordered says)
+
 -- a consistent network, by the record of how it was solved
 pub says_consistent : (pick : Pick) (answers : ℕ → ℕ → ℕ → Type 0) (net : Net) (section : SectionView) (commands : List Command)
     (text said : List ℕ) → ((degree number key : ℕ) → answers degree number key → is_answer pick degree number key)
     → IsConsistent (point_count net) (arcs_of net) → IsLegalSection net section → ArePickedOrders answers net section
-    → SaysCommands net commands said → text ≡ solved_report net section said → Solves pick net commands Done text
+    → SaysCommands net (map (λ p. p.0) (joined_order section)) commands said → text ≡ solved_report net section said → Solves pick net commands Done text
 says_consistent pick answers net section commands text said keys consistent legal picked says report = record {
   verdict = consistent;
   says = record {

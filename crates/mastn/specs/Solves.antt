@@ -1,5 +1,6 @@
--- What the job `solve` says of its input: key_of, is_answer, solved_report, ReportsSolved, SaysSolved, Solves, asked_behind, Asks, SaysAsked, OfScript, solves.
-use Rattle.std.specs.Prelude.{◌≡◌, ℕ, ◌+◌, true, List, [], ◌++◌, codes, drop, Option, None, Some, Result, Ok, Err, if◌then◌else◌}
+-- What the job `solve` says of its input: key_of, is_answer, solved_report, ReportsSolved, SaysSolved, Solves, asked_behind, Asks,
+-- IsOf, SaysAsked, OfScript, solves.
+use Rattle.std.specs.Prelude.{◌≡◌, ℕ, ◌+◌, true, List, [], ◌++◌, codes, map, drop, Option, None, Some, Result, Ok, Err, if◌then◌else◌}
 use Rattle.stn_model.specs.Net.{Net}
 use Rattle.net_text.specs.declared.cause.TextCause.TheVariants.{AfterDone}
 use Rattle.net_text.specs.declared.cause.TextError.{TextError}
@@ -10,6 +11,7 @@ use Rattle.net_text.specs.Lines.{lines, first_unskipped}
 use Rattle.net_text.specs.Networks.{text_of}
 use Rattle.script_text.specs.declared.command.Command.{Command}
 use Rattle.script_text.specs.declared.read.ScriptRead.{ScriptRead}
+use Rattle.script_text.specs.Possible.{IsScriptOf}
 use Rattle.script_text.specs.Scripts.{script_of}
 use Rattle.schedule_report.specs.Lines.{word_line, verdict_line, error_line}
 use Rattle.schedule_report.specs.Parts.{order_lines}
@@ -39,13 +41,13 @@ is_answer pick degree number answer = answer ≡ key_of pick degree number
 abbrev pub solved_report : Net → SectionView → List ℕ → List ℕ
 solved_report net section said = verdict_line true ++ order_lines net (joined_order section) ++ said ++ word_line (codes "done")
 
--- a legal record, whose private points are such as the pick allows, and its report with what the commands say of the network
+-- a legal record, whose private points are such as the pick allows, and its report with what the commands say of the network and of the order
 pub record ReportsSolved (pick : Pick) (net : Net) (commands : List Command) (text : List ℕ) : Type 0 where
   pub section : SectionView
   pub legal : IsLegalSection net section
   pub picked : ArePickedOrders (is_answer pick) net section
   pub said : List ℕ
-  pub says : SaysCommands net commands said
+  pub says : SaysCommands net (map (λ p. p.0) (joined_order section)) commands said
   pub report : text ≡ solved_report net section said
 
 -- the text for a network, by the outcome
@@ -69,6 +71,12 @@ abbrev pub Asks : ℕ → List ℕ → Result ScriptRead TextError → Asked →
 Asks first rest (Ok read) is = is ≡ asked_behind (first_unskipped (first + read.lines) (lines (drop read.used rest))) read.script
 Asks first rest (Err (refused.At number cause)) is = is ≡ asked.Bad number cause
 Asks first rest (Err refused.OutOfMemory) is = ⊥
+
+-- the commands are such as a script that was read for the network has
+abbrev pub IsOf : Net → Asked → Type 0
+IsOf net (asked.Bad number cause) = Unit {0}
+IsOf net asked.NotBuilt = Unit {0}
+IsOf net (asked.Told commands) = IsScriptOf net commands
 
 -- the outcome and the text for what is asked
 abbrev pub SaysAsked : Pick → Net → Asked → Outcome → List ℕ → Type 0

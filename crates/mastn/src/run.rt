@@ -191,7 +191,8 @@ fn read_input<S: Source>(alloc: Global, source: &mut S) -> Result<Vec<u8>, ReadR
 
 /// Reads a network and a script, and solves the network by a worker for each agent, each of which eliminates its agent's private points in an order
 /// that the pick allows, and then shared points. Reports the joined order and what the commands of the script say of the network, one after another; or
-/// a negative cycle. Refused is what follows the network where it is no script, or has a command that is not built: `windows` alone is built yet.
+/// a negative cycle. Refused is what follows the network where it is no script, or has a command that is not built: `bounds`, `windows` and `prove`
+/// alone are built yet.
 pub fn run_solve<R: Threads + Wait + Sync, S: Source, K: Sink, G: Gate + Sync>(
     rt: &R,
     alloc: Global,

@@ -1,7 +1,7 @@
 //! What the rest of an input asks of its network.
 ghost use Rattle.std.specs.Prelude.{◌+◌, ◌<◌, ◌^◌, IfOk, length};
 ghost use Rattle.script_text.specs.Scripts.{script_of};
-ghost use Rattle.mastn.specs.Solves.{Asks};
+ghost use Rattle.mastn.specs.Solves.{Asks, IsOf};
 
 use crate::commands::are_built;
 use net_text::{TextCause, TextError, rest_is_blank};
@@ -28,7 +28,8 @@ pub fn read_asked(
     first_line: u32,
 ) -> Result<Asked, OutOfMemory>
     requires few_lines { length rest.now + first_line < 2 ^ 32 }
-    ensures { IfOk result (Asks first_line rest.now (script_of net.now first_line rest.now)) }
+    ensures asks { IfOk result (Asks first_line rest.now (script_of net.now first_line rest.now)) }
+    ensures of { IfOk result (IsOf net.now) }
 {
     let read = match read_script(alloc, net, rest, first_line) {
         Ok(read) => read,

@@ -1,8 +1,9 @@
 //! The answer of `solve`.
-ghost use Rattle.std.specs.Prelude.{◌≡◌, ℕ, ◌≤◌, List, true, IfOk, length};
+ghost use Rattle.std.specs.Prelude.{◌≡◌, ◌++◌, ℕ, ◌≤◌, List, map, true, IfOk, OnOk, length};
 ghost use Rattle.stn_model.specs.Net.{arcs_of, point_count};
 ghost use Rattle.stn_model.specs.Schedules.{IsConsistent};
-ghost use Rattle.joined_answer.specs.Joins.{IsLegalSection};
+ghost use Rattle.joined_answer.specs.Joins.{IsLegalSection, joined_order};
+ghost use Rattle.script_text.specs.Possible.{IsScriptOf};
 ghost use Rattle.mastn.specs.Commands.{are_built, SaysCommands};
 ghost use Rattle.mastn.specs.Limits.{longest_input};
 ghost use Rattle.mastn.specs.Solves.{OfScript, Solves, key_of, solved_report, solves};
@@ -72,6 +73,7 @@ fn solve_net<R: Threads + Wait + Sync, G: Gate + Sync>(
     gate: &G,
 ) -> Result<Answer, OutOfMemory>
     requires built { are_built commands.now ≡ true }
+    requires of { IsScriptOf net.now commands.now }
     ensures { IfOk result (λ a. Solves pick net.now commands.now a.outcome a.text.items) }
 {
     match pick {
@@ -97,6 +99,7 @@ fn solve_by<R: Threads + Wait + Sync, G: Gate + Sync>(
     gate: &G,
 ) -> Result<Answer, OutOfMemory>
     requires built { are_built commands.now ≡ true }
+    requires of { IsScriptOf net.now commands.now }
     requires callable { IsAlwaysCallable key }
     requires keys { (degree number answer : ℕ) → post key degree number answer → answer ≡ key_of pick degree number }
     ensures { IfOk result (λ a. Solves pick net.now commands.now a.outcome a.text.items) }
@@ -131,13 +134,35 @@ fn solved_text(
     requires network { joined.now.network ≡ net.now }
     requires legal { IsLegalSection net.now joined.now.section }
     requires built { are_built commands.now ≡ true }
+    requires of { IsScriptOf net.now commands.now }
     ensures consistent { IfOk result (λ text. IsConsistent (point_count net.now) (arcs_of net.now)) }
-    ensures report { IfOk result (λ text. (said : List ℕ) × SaysCommands net.now commands.now said × (text.items ≡ solved_report net.now joined.now.section said)) }
+    ensures report { IfOk result (λ text. (said : List ℕ) × SaysCommands net.now (map (λ p. p.0) (joined_order joined.now.section)) commands.now said
+        × (text.items ≡ solved_report net.now joined.now.section said)) }
 {
     let mut text = Vec::new(alloc);
     verdict(true, &mut text)?;
     order_lines(joined.network(), joined.order(), &mut text)?;
-    say_all(alloc, joined, commands, &mut text)?;
+    add_said(alloc, net, joined, commands, &mut text)?;
     word_line(b"done", &mut text)?;
     Ok(text)
+}
+
+/// Appends what the commands say of the network that was solved, and of the order.
+fn add_said(
+    alloc: Global,
+    net: &Network,
+    joined: &Joined,
+    commands: &[Command],
+    out: &mut Vec<u8>,
+) -> Result<(), OutOfMemory>
+    requires network { joined.now.network ≡ net.now }
+    requires built { are_built commands.now ≡ true }
+    requires of { IsScriptOf net.now commands.now }
+    ensures { OnOk result ((said : List ℕ) × SaysCommands net.now (map (λ p. p.0) (joined_order joined.now.section)) commands.now said
+        × (out.new.items ≡ out.old.items ++ said)) }
+{
+    // With the network comes that the order is that of the record.
+    let _network = joined.network();
+    say_all(alloc, joined, commands, out)?;
+    Ok(())
 }

@@ -281,19 +281,41 @@ fn networks_are_solved(rt: HostRuntime) -> Result<(), Fail> {
 }
 
 #[test]
-fn shared_points_come_in_either_order(rt: HostRuntime) -> Result<(), Fail> {
-    let found = solved(
-        &rt,
-        &[],
-        HANDOVER,
-        b"# the windows alone\nwindows\ndone\n\n# behind it\n",
-    )?;
-    let first: &[u8] =
-        b"consistent\nprivate a1\nprivate b2\nshared a2\nshared b1\nwindows 4\nwindow a1 0 20\nwindow a2 30 60\nwindow b1 30 65\nwindow b2 40 85\ndone\n";
-    let second: &[u8] =
-        b"consistent\nprivate a1\nprivate b2\nshared b1\nshared a2\nwindows 4\nwindow a1 0 20\nwindow a2 30 60\nwindow b1 30 65\nwindow b2 40 85\ndone\n";
+fn commands_say_the_same_in_either_order(rt: HostRuntime) -> Result<(), Fail> {
+    let first: &[u8] = b"consistent\nprivate a1\nprivate b2\nshared a2\nshared b1\n";
+    let second: &[u8] = b"consistent\nprivate a1\nprivate b2\nshared b1\nshared a2\n";
+    let cases: [(&[u8], &[u8]); 3] = [
+        (
+            b"# the windows alone\nwindows\ndone\n\n# behind it\n",
+            b"windows 4\nwindow a1 0 20\nwindow a2 30 60\nwindow b1 30 65\nwindow b2 40 85\ndone\n",
+        ),
+        (
+            b"bounds\ndone\n",
+            b"bounds 14\nleast z a1 20\nleast z a2 60\nleast z b1 65\nleast z b2 85\nleast a1 z 0\nleast a1 a2 40\nleast a2 z -30\nleast a2 a1 -30\nleast a2 b1 5\nleast b1 z -30\nleast b1 a2 0\nleast b1 b2 20\nleast b2 z -40\nleast b2 b1 -10\ndone\n",
+        ),
+        (
+            b"prove z b1\ndone\n",
+            b"prove z b1 65 3\narc 8 z a1 20\narc 9 a1 a2 40\narc 11 a2 b1 5\ntime a1 20\ntime a2 60\ntime b1 65\ntime b2 85\ndone\n",
+        ),
+    ];
+    for (script, said) in cases {
+        let found = solved(&rt, &[], HANDOVER, script)?;
+        assert_eq!(rt; found.0, Status::Done);
+        let text = found.1.as_slice();
+        assert!(rt; text.starts_with(first) || text.starts_with(second));
+        assert!(rt; text.ends_with(said));
+        assert_eq!(rt; text.len(), first.len() + said.len());
+    }
+    Ok(())
+}
+
+#[test]
+fn bounds_of_one_point_are_told(rt: HostRuntime) -> Result<(), Fail> {
+    let net: &[u8] = b"mastn 1\nhorizon 10\nagent alice early\npoint alice a\nend\n";
+    let found = solved(&rt, &[], net, b"bounds\ndone\n")?;
     assert_eq!(rt; found.0, Status::Done);
-    assert!(rt; found.1.as_slice() == first || found.1.as_slice() == second);
+    let text: &[u8] = b"consistent\nprivate a\nbounds 2\nleast z a 10\nleast a z 0\ndone\n";
+    assert_eq!(rt; found.1.as_slice(), text);
     Ok(())
 }
 
@@ -335,7 +357,7 @@ fn scripts_are_refused(rt: HostRuntime) -> Result<(), Fail> {
         (&[], b"", Status::ScriptBad, b"error 14 NoDone\n"),
         (
             &[],
-            b"windows\nbounds\ndone\n",
+            b"windows\ndecouple\ndone\n",
             Status::ScriptBad,
             b"error 0 NotBuilt\n",
         ),
