@@ -16,7 +16,8 @@ pub fn json_networks_are_reported()
     ensures { JsonNetworksAreReported }
 {}
 
-/// `solve` reports each network that has the script `done` behind it, where no read and no write fails, unless memory runs out; if it returns.
+/// `solve` reports each network that has a script of built commands behind it, where no read and no write fails, unless memory runs out; if it
+/// returns.
 #[tactic(auto, using(crate::proofs::ValidSolves::valid_solves))]
 pub fn solves_are_reported()
     ensures { SolvesAreReported }

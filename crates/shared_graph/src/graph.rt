@@ -203,7 +203,7 @@ impl<R: Rows> Graph<R> {
         self.unvisited
     }
 
-    /// An equal graph, with equal origins of its weights; or OutOfMemory.
+    /// An equal graph; or OutOfMemory.
     pub fn copy(&self, alloc: Global) -> Result<Graph<R>, OutOfMemory>
         ensures { IfOk result (λ g. g ≡ self.now) }
     {

@@ -177,7 +177,7 @@ impl Shared {
         self.graph.final_bound(i, j)
     }
 
-    /// An equal graph, with equal origins of its weights; or OutOfMemory.
+    /// An equal graph; or OutOfMemory.
     pub fn copy(&self, alloc: Global) -> Result<Shared, OutOfMemory>
         ensures { IfOk result (λ s. s ≡ self.now) }
     {
