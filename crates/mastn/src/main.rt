@@ -5,6 +5,8 @@ mod answer;
 mod certify;
 mod check;
 mod commands;
+#[cfg(test)]
+mod gate_tests;
 mod generate;
 mod json;
 mod laws;
