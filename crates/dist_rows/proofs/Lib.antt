@@ -1,3 +1,4 @@
+pub mod Lists
 pub mod Lights
 pub mod Matrices
 pub mod Listings

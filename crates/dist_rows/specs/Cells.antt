@@ -69,3 +69,12 @@ offer_at os m = slice_index_or os m no_offer
 -- the places rise
 abbrev pub AreRising : List Offer → Type 0
 AreRising os = (m n : ℕ) → m < n → n < length os → (offer_at os m).place < (offer_at os n).place
+
+-- the weight that stands where there is no cell, above those of all cells
+abbrev pub far : ℤ
+far = pos (2 ^ 120)
+
+-- the weight of a cell, where there is one
+abbrev pub weight_in : Option Cell → ℤ
+weight_in None = far
+weight_in (Some c) = c.weight

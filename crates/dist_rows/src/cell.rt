@@ -1,6 +1,6 @@
 //! A cell: a weight, and where it comes from.
 ghost use Rattle.std.specs.Prelude.{◌≡◌};
-ghost use Rattle.dist_rows.specs.Cells.{is_lower};
+ghost use Rattle.dist_rows.specs.Cells.{is_lower, weight_in};
 
 use stn_model::AgentId;
 
@@ -38,5 +38,18 @@ impl Cell {
             None => true,
             Some(old) => self.weight < old.weight,
         }
+    }
+}
+
+/// The weight that stands where there is no cell: 2^120, above those of all cells.
+pub const FAR: i128 = 1_329_227_995_784_915_872_903_807_060_280_344_576;
+
+/// The weight of a cell, or `FAR`.
+pub fn weight_in(cell: Option<Cell>) -> i128
+    ensures { result ≡ weight_in cell }
+{
+    match cell {
+        None => FAR,
+        Some(cell) => cell.weight,
     }
 }

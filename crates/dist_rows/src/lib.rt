@@ -7,7 +7,7 @@ pub mod matrix;
 pub mod rows;
 mod slot;
 
-pub use cell::{Cell, Offer, Via};
+pub use cell::{Cell, FAR, Offer, Via, weight_in};
 pub use listed::Listed;
 pub use matrix::MatrixRows;
 pub use rows::Rows;

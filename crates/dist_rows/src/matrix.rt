@@ -7,7 +7,7 @@ ghost use Rattle.dist_rows.specs.Cells.{lowered, is_lower, are_neighbours, IsAbo
 ghost use Rattle.dist_rows.specs.Places.{is_roomless};
 ghost use Rattle.dist_rows.specs.Slots.{holds_light, no_slot};
 
-use crate::cell::{Cell, Offer, Via};
+use crate::cell::{Cell, Offer, Via, weight_in};
 use crate::listed::{Listed, put_where};
 use crate::rows::Rows;
 use crate::slot::Slot;
@@ -131,6 +131,12 @@ impl Rows for MatrixRows {
     fn read_row(&self, i: u32, others: &[u32], cells: &mut [Option<Cell>]) {
         for n in 0..others.len() {
             cells[n] = self.get(i, others[n]);
+        }
+    }
+
+    fn read_weights(&self, i: u32, others: &[u32], weights: &mut [i128]) {
+        for n in 0..others.len() {
+            weights[n] = weight_in(self.get(i, others[n]));
         }
     }
 

@@ -1,7 +1,7 @@
 //! The trait of rows: what every representation of cells between places keeps.
-ghost use Rattle.std.specs.Prelude.{◌≡◌, ◌≢◌, ℕ, ◌<◌, ◌≤◌, Bool, true, false, Option, Some, None, IfOk, OnOk, OnErr, IfSome, IfNone, is_some, ◌&&◌, ◌||◌, not, ◌==◌, length, take, slice_index_or};
+ghost use Rattle.std.specs.Prelude.{◌≡◌, ◌≢◌, ℕ, ◌<◌, ◌≤◌, Bool, true, false, Option, Some, None, IfOk, OnOk, OnErr, IfSome, IfNone, pos, is_some, ◌&&◌, ◌||◌, not, ◌==◌, length, take, slice_index_or};
 ghost use Rattle.dist_rows.specs.declared.cell.Cell.{Cell};
-ghost use Rattle.dist_rows.specs.Cells.{lowered, is_lower, are_neighbours, IsAbove, IsLight, offer_at, row_lowered, AreRising};
+ghost use Rattle.dist_rows.specs.Cells.{lowered, is_lower, are_neighbours, weight_in, IsAbove, IsLight, offer_at, row_lowered, AreRising};
 ghost use Rattle.dist_rows.specs.Places.{lists, AreWithin, AreRisingPlaces, count_roomless, IsListing};
 
 use crate::cell::{Cell, Offer};
@@ -113,6 +113,16 @@ pub trait Rows: Drop + Sized {
         requires len { length cells.old ≡ length others.now }
         ensures len { length cells.new ≡ length cells.old }
         ensures cells { (m : ℕ) → m < length others.now → slice_index_or cells.new m None ≡ at self.now i (slice_index_or others.now m 0) };
+
+    /// Reads the weights of the row of `i` at the places of a list that rises into a buffer of as many: `FAR`, which is 2^120,
+    /// where there is no cell.
+    fn read_weights(&self, i: u32, others: &[u32], weights: &mut [i128])
+        requires within { i < places self.now }
+        requires others { AreWithin (places self.now) others.now }
+        requires rising { AreRisingPlaces others.now }
+        requires len { length weights.old ≡ length others.now }
+        ensures len { length weights.new ≡ length weights.old }
+        ensures weights { (m : ℕ) → m < length others.now → slice_index_or weights.new m (pos 0) ≡ weight_in (at self.now i (slice_index_or others.now m 0)) };
 
     /// The least place above `after`, or of all where that is None, that has a cell with `i` in either direction.
     /// None where there is no such place.

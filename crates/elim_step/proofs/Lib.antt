@@ -19,4 +19,3 @@ pub mod JoinFacts
 pub mod FinalWeights
 pub mod OriginFacts
 pub mod Unfolding
-pub mod Lists

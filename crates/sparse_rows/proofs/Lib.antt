@@ -1,3 +1,4 @@
 pub mod RowEntries
 pub mod RowSets
+pub mod Spread
 pub mod Threes

@@ -4,6 +4,7 @@ use Rattle.std.proofs.Common.{refl, length, arith, subst}
 use Rattle.std.specs.Prelude.{◌==◌, if◌then◌else◌, is_some, slice_index_or, nat_lt}
 use Rattle.std.specs.List.{insert}
 use Rattle.std.proofs.lemmas.Bool.Decides.{nat_tests}
+use Rattle.dist_rows.specs.Cells.{far, weight_in}
 use Rattle.sparse_rows.specs.declared.entry.Entry.{Entry}
 use Rattle.sparse_rows.specs.Entries.{entry_in, cell_of, is_open, cell_at, opens, knows, no_entry, place_at, IsRising, cell_in, is_open_origin, IsSought}
 use Rattle.sparse_rows.specs.Entries.{IsGap, IsHere, IsChanged}
@@ -287,3 +288,22 @@ sought_here es p rising lt = record {
 -- the cell of an entry is that of its place
 pub cell_of_entry : (es : List Entry) (p : ℕ) → IsRising es → p < length es → cell_in (slice_index_or es p no_entry) ≡ cell_at es (place_at es p)
 cell_of_entry es p rising lt = cell_there es p (place_at es p) (sought_here es p rising lt) lt refl
+
+-- behind the entry of a place, and behind where it would stand, a search for the next number ends
+pub sought_behind : (es : List Entry) (p j : ℕ) → IsRising es → IsSought es j p → p < length es → place_at es p ≡ j → IsSought es (j + 1) (p + 1)
+sought_behind es p j rising s lt is = record {
+  within = omega (arith, lt);
+  below = λ q less. (let le : place_at es q < place_at es p + 1 = below_up es q p (place_at es p + 1) rising less lt (omega arith) in omega (arith, le, is));
+  above = λ q least less. (let up = rising p q (omega (arith, least)) less in omega (arith, up, is));
+}
+
+pub sought_past : (es : List Entry) (p j : ℕ) → IsRising es → IsSought es j p → (p < length es → place_at es p ≢ j) → IsSought es (j + 1) p
+sought_past es p j rising s apart = record {
+  within = s.within;
+  below = λ q less. (let l = s.below q less in omega (arith, l));
+  above = λ q least less. (let up = strictly_above es p j rising s apart q least less in omega (arith, up));
+}
+
+-- the weight of a place, where a search for it has ended
+pub weight_missing : (es : List Entry) (p j : ℕ) → IsRising es → IsSought es j p → (p < length es → place_at es p ≢ j) → far ≡ weight_in (cell_at es j)
+weight_missing es p j rising s apart = ap weight_in (cell_missing es p j rising s apart)

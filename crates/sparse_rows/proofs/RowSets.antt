@@ -36,15 +36,16 @@ light_some : (o : Option Cell) (c : Cell) → IfSome o (λ d. IsLight 100 d.weig
 light_some None c h e = absurd (cc)
 light_some (Some d) c h e = (let same : d ≡ c = cc in subst (λ (x : Cell). IsLight 100 x.weight) same h)
 
--- the rows are kept where the new row rises, has entries of other places below the size and of light cells, all that were there, and room only where it is
--- mirrored
+-- the rows are kept where the new row rises, has entries of places below the size and of light cells, all that were there, none with room of its own place,
+-- and room only where it is mirrored
 pub kept : (n : ℕ) (rows : List (List Entry)) (i : ℕ) (r : List Entry) → AreRows n rows → i < n → IsRising r
-    → ((q : ℕ) → knows r q ≡ true → (q < n) × (i ≢ q))
+    → ((q : ℕ) → knows r q ≡ true → q < n)
+    → opens r i ≡ false
     → ((q : ℕ) → IfSome (cell_at r q) (λ c. IsLight 100 c.weight))
     → ((q : ℕ) → knows (row_of rows i) q ≡ true → knows r q ≡ true)
     → ((q : ℕ) → opens r q ≡ true → knows (row_of rows q) i ≡ true)
     → AreRows n (set rows i r)
-kept n rows i r k lt rising within light more mirrored =
+kept n rows i r k lt rising within apart light more mirrored =
     let l : i < length rows = rw k.len lt in
     let grows : (q : ℕ) → (m : ℕ) → knows (row_of rows q) m ≡ true → knows (row_of (set rows i r) q) m
     ≡ true = by_row (λ q x. (m : ℕ) → knows (row_of rows q) m ≡ true → knows x m ≡ true) rows i r l more (λ q m h. h) in
@@ -54,7 +55,8 @@ kept n rows i r k lt rising within light more mirrored =
     record {
       len = length-set rows i r ∙ k.len;
       rising = by_row (λ p x. IsRising x) rows i r l rising k.rising;
-      within = by_row (λ p x. (q : ℕ) → knows x q ≡ true → (q < n) × (p ≢ q)) rows i r l within k.within;
+      within = by_row (λ p x. (q : ℕ) → knows x q ≡ true → q < n) rows i r l within k.within;
+      apart = by_row (λ p x. opens x p ≡ false) rows i r l apart k.apart;
       light = shines;
       mirrored = by_row (λ p x. (q : ℕ) → opens x q ≡ true → knows (row_of (set rows i r) q) p ≡ true) rows i r l (λ q h. grows q i (mirrored q h))
           (λ p q h. grows q p (k.mirrored p q h));
@@ -106,7 +108,8 @@ pub empty_kept : (n : ℕ) (rows : List (List Entry)) → length rows ≡ n → 
 empty_kept n rows len none = record {
   len = len;
   rising = λ i. subst (λ (y : List Entry). IsRising y) (sym (none i)) (λ p q less l. absurd (omega (arith, l)));
-  within = λ i j. subst (λ (y : List Entry). knows y j ≡ true → (j < n) × (i ≢ j)) (sym (none i)) (λ h. absurd (cc));
+  within = λ i j. subst (λ (y : List Entry). knows y j ≡ true → j < n) (sym (none i)) (λ h. absurd (cc));
+  apart = λ i. subst (λ (y : List Entry). opens y i ≡ false) (sym (none i)) refl;
   light = λ i j c. subst (λ (y : List Entry). cell_at y j ≡ Some c → IsLight 100 c.weight) (sym (none i)) (λ h. absurd (cc));
   mirrored = λ i j. subst (λ (y : List Entry). opens y j ≡ true → knows (row_of rows j) i ≡ true) (sym (none i)) (λ h. absurd (cc));
 }
@@ -187,6 +190,7 @@ kept_lowered n rows i j x r cell k lt at rising known room cells light =
     [ true ↦ lesser_light (cell_at (row_of rows i) j) cell (are_light n rows k i j) light | false ↦ are_light n rows k i q ]) in
     kept n rows i r k lt rising
     (λ q h. k.within i q (sym (known_now q) ∙ h))
+    (room_now i ∙ k.apart i)
     (λ q. subst (λ (o : Option Cell). IfSome o (λ c. IsLight 100 c.weight)) (sym (cells_now q)) (shines q))
     (λ q h. known_now q ∙ h)
     (λ q h. k.mirrored i q (sym (room_now q) ∙ h))
@@ -225,7 +229,7 @@ upto_later list n m x d rising lt less later there =
 
 -- the place of an entry is below the size
 pub place_within : (size : ℕ) (rows : List (List Entry)) (i at : ℕ) → AreRows size rows → at < length (row_of rows i) → place_at (row_of rows i) at < size
-place_within size rows i at k lt = (k.within i (place_at (row_of rows i) at) (known_at (row_of rows i) at (k.rising i) lt)).0
+place_within size rows i at k lt = k.within i (place_at (row_of rows i) at) (known_at (row_of rows i) at (k.rising i) lt)
 
 -- all entries have places below the size
 pub sought_end : (size : ℕ) (rows : List (List Entry)) (i at : ℕ) → AreRows size rows → at ≡ length (row_of rows i) → IsSought (row_of rows i) size at

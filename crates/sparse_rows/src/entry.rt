@@ -1,8 +1,9 @@
 //! An entry of a row: another place, with a cell or none, in 32 bytes.
 ghost use Rattle.std.specs.Prelude.{◌≡◌, Option, Some, None};
+ghost use Rattle.dist_rows.specs.Cells.{weight_in};
 ghost use Rattle.sparse_rows.specs.Entries.{cell_in, is_open_origin, written_over, opened, closed_at, open_at};
 
-use dist_rows::{Cell, Via};
+use dist_rows::{Cell, FAR, Via};
 use std::mem::size_of;
 use stn_model::AgentId;
 
@@ -103,5 +104,16 @@ impl Entry {
             weight: self.weight,
             via,
         })
+    }
+
+    /// The weight of the cell of the pair, or `FAR`.
+    pub fn plain_weight(self) -> i128
+        ensures { result ≡ weight_in (cell_in self) }
+    {
+        match self.origin {
+            Origin::Closed => FAR,
+            Origin::Nothing => FAR,
+            _ => self.weight,
+        }
     }
 }

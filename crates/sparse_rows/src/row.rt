@@ -1,12 +1,12 @@
 //! One row: the entries of a place, by rising other place.
 ghost use Rattle.std.specs.Prelude.{◌≡◌, ℕ, ◌+◌, ◌<◌, ◌≤◌, Bool, true, false, ◌||◌, ◌==◌, Option, Some, None, List, [], if◌then◌else◌, IfOk, IfErr, OnOk, OnErr, length, slice_index_or, ◌≢◌};
 ghost use Rattle.dist_rows.specs.declared.cell.Cell.{Cell};
-ghost use Rattle.dist_rows.specs.Cells.{is_lower, lesser};
+ghost use Rattle.dist_rows.specs.Cells.{is_lower, lesser, weight_in};
 ghost use Rattle.sparse_rows.specs.declared.entry.Entry.{Entry};
-ghost use Rattle.sparse_rows.specs.Entries.{cell_at, opens, knows, entry_in, place_at, no_entry, IsRising, IsSought, IsGap, IsHere, IsChanged};
+ghost use Rattle.sparse_rows.specs.Entries.{cell_at, opens, knows, entry_in, entry_or, place_at, no_entry, IsRising, IsSought, IsGap, IsHere, IsChanged};
 
 use crate::entry::Entry;
-use dist_rows::Cell;
+use dist_rows::{Cell, FAR};
 use std::alloc::Global;
 use std::cmp::min;
 use std::marker::Model;
@@ -126,7 +126,7 @@ impl Row {
     }
 
     /// How many entries have places below j, where the first `from` have. Where they are not many more, this takes a step
-    /// for each.
+    /// for each, and none where each place has an entry.
     pub fn advance(&self, from: usize, j: u32) -> usize
         requires rising { IsRising self.now }
         requires within { from ≤ length self.now }
@@ -136,14 +136,18 @@ impl Row {
         if self.is_reached(from, j) {
             return from;
         }
+        // Where each place has an entry, it stands at its number.
+        if self.is_at(j as usize, j) {
+            return j as usize;
+        }
         self.advance_far(from, j)
     }
 
     // How many entries have places up to j, where `at` have places below it.
     fn after(&self, at: usize, j: u32) -> usize
+        requires rising { IsRising self.now }
         requires sought { IsSought self.now j at }
-        ensures within { result ≤ length self.now }
-        ensures upto { (q : ℕ) → q < result → place_at self.now q < j + 1 }
+        ensures { IsSought self.now (j + 1) result }
     {
         if at < self.len() && self.place(at) == j {
             return at + 1;
@@ -261,16 +265,35 @@ impl Row {
         requires within { from ≤ length self.now }
         requires below { (q : ℕ) → q < from → place_at self.now q < j }
         ensures value { result.1 ≡ cell_at self.now j }
-        ensures within { result.0 ≤ length self.now }
-        ensures upto { (q : ℕ) → q < result.0 → place_at self.now q < j + 1 }
+        ensures next { IsSought self.now (j + 1) result.0 }
     {
-        let end = self.len();
-        if self.is_at(from, j) {
-            prove!(from < end);
-            return (from + 1, self.entry(from).cell());
-        }
         let at = self.advance(from, j);
         (self.after(at, j), self.cell(at, j))
+    }
+
+    // The weight at a place, or `FAR`, where `at` entries have places below it.
+    fn weight(&self, at: usize, j: u32) -> i128
+        requires rising { IsRising self.now }
+        requires sought { IsSought self.now j at }
+        ensures { result ≡ weight_in (cell_at self.now j) }
+    {
+        if self.is_at(at, j) {
+            return self.entry(at).plain_weight();
+        }
+        FAR
+    }
+
+    /// The weight at a place, or `FAR`, where the first `from` entries have places below it, and how many have places up to
+    /// it. Where they are not many more, this takes a step for each.
+    pub fn weight_from(&self, from: usize, j: u32) -> (usize, i128)
+        requires rising { IsRising self.now }
+        requires within { from ≤ length self.now }
+        requires below { (q : ℕ) → q < from → place_at self.now q < j }
+        ensures value { result.1 ≡ weight_in (cell_at self.now j) }
+        ensures next { IsSought self.now (j + 1) result.0 }
+    {
+        let at = self.advance(from, j);
+        (self.after(at, j), self.weight(at, j))
     }
 
     /// The cell of an entry.
@@ -404,6 +427,45 @@ impl Row {
         at
     }
 
+    // The entry of a place, or one without room where it has none.
+    fn entry_or_closed(&self, j: u32) -> Entry
+        requires { IsRising self.now }
+        ensures { result ≡ entry_or (entry_in self.now j) j }
+    {
+        match self.find(j) {
+            Ok(at) => self.entry(at),
+            Err(_) => Entry::closed(j),
+        }
+    }
+
+    // The entries of all places below a size, each without room where it has none.
+    fn spread_entries(&self, size: u32) -> Result<Vec<Entry>, OutOfMemory>
+        requires rising { IsRising self.now }
+        ensures len { IfOk result (λ r. length r.items ≡ size) }
+        ensures each { IfOk result (λ r. (q : ℕ) → q < size → slice_index_or r.items q no_entry ≡ entry_or (entry_in self.now q) q) }
+    {
+        let mut entries = Vec::with_capacity(*self.entries.allocator(), size as usize)?;
+        for j in 0..size {
+            entries.push(self.entry_or_closed(j))?;
+        }
+        Ok(entries)
+    }
+
+    /// Makes an entry, without room, of each place below a size that has none. Each stands at its place's number then.
+    pub fn spread(&mut self, size: u32) -> Result<(), OutOfMemory>
+        requires rising { IsRising self.old }
+        requires within { (q : ℕ) → knows self.old q ≡ true → q < size }
+        ensures rising { IsRising self.new }
+        ensures cells { (q : ℕ) → cell_at self.new q ≡ cell_at self.old q }
+        ensures room { (q : ℕ) → opens self.new q ≡ opens self.old q }
+        ensures more { (q : ℕ) → knows self.old q ≡ true → knows self.new q ≡ true }
+        ensures within { (q : ℕ) → knows self.new q ≡ true → q < size }
+    {
+        let entries = self.spread_entries(size)?;
+        self.entries = entries;
+        Ok(())
+    }
+
     /// Whether there is room at a place, where `at` entries have places below it.
     pub fn has_room(&self, at: usize, j: u32) -> bool
         requires rising { IsRising self.now }
@@ -423,14 +485,8 @@ impl Row {
         requires within { from ≤ length self.now }
         requires below { (q : ℕ) → q < from → place_at self.now q < j }
         ensures value { result.1 ≡ opens self.now j }
-        ensures within { result.0 ≤ length self.now }
-        ensures upto { (q : ℕ) → q < result.0 → place_at self.now q < j + 1 }
+        ensures next { IsSought self.now (j + 1) result.0 }
     {
-        let end = self.len();
-        if self.is_at(from, j) {
-            prove!(from < end);
-            return (from + 1, self.entry(from).is_open());
-        }
         let at = self.advance(from, j);
         (self.after(at, j), self.has_room(at, j))
     }

@@ -33,6 +33,32 @@ impl SparseRows {
         &self.rows[i as usize]
     }
 
+    // Whether the row of a place would have more than a quarter of all places with so many further ones, and has not all.
+    fn is_filling(&self, i: u32, more: usize) -> bool
+        requires { i < self.now.size }
+    {
+        let len = self.row(i).len();
+        let size = self.size as usize;
+        let quarter = size / 4;
+        len < size && (len > quarter || more > quarter - len)
+    }
+
+    // Makes entries, without room, of all pairs from a place where its row is filling, so that none has to be sought or
+    // moved aside for another from then on.
+    fn spread(&mut self, i: u32, more: usize) -> Result<(), OutOfMemory>
+        requires within { i < self.old.size }
+        ensures size { self.new.size ≡ self.old.size }
+        ensures cells { (p q : ℕ) → cells_of self.new.rows.items p q ≡ cells_of self.old.rows.items p q }
+        ensures room { (p q : ℕ) → rooms_of self.new.rows.items p q ≡ rooms_of self.old.rows.items p q }
+        ensures more { (p q : ℕ) → knows (row_of self.old.rows.items p) q ≡ true → knows (row_of self.new.rows.items p) q ≡ true }
+    {
+        if self.is_filling(i, more) {
+            let size = self.size;
+            self.rows[i as usize].spread(size)?;
+        }
+        Ok(())
+    }
+
     // Makes an entry of a pair, without room, unless there is one.
     fn know(&mut self, i: u32, j: u32) -> Result<(), OutOfMemory>
         requires within { (i < self.old.size) × (j < self.old.size) }
@@ -43,6 +69,7 @@ impl SparseRows {
         ensures known { OnOk result (knows (row_of self.new.rows.items i) j ≡ true) }
         ensures more { (p q : ℕ) → knows (row_of self.old.rows.items p) q ≡ true → knows (row_of self.new.rows.items p) q ≡ true }
     {
+        self.spread(i, 1)?;
         self.rows[i as usize].know(j)?;
         Ok(())
     }
@@ -113,6 +140,7 @@ impl SparseRows {
         ensures more { (p q : ℕ) → knows (row_of self.old.rows.items p) q ≡ true → knows (row_of self.new.rows.items p) q ≡ true }
         ensures known { OnOk result ((m : ℕ) → m < length list.now → i ≢ slice_index_or list.now m 0 → knows (row_of self.new.rows.items i) (slice_index_or list.now m 0) ≡ true) }
     {
+        self.spread(i, list.len())?;
         let mut at = 0;
         for n in 0..list.len() {
             at = self.know_from(i, at, list[n])?;
@@ -360,6 +388,16 @@ impl Rows for SparseRows {
         for n in 0..others.len() {
             let (next, cell) = row.cell_from(from, others[n]);
             cells[n] = cell;
+            from = next;
+        }
+    }
+
+    fn read_weights(&self, i: u32, others: &[u32], weights: &mut [i128]) {
+        let row = self.row(i);
+        let mut from = 0;
+        for n in 0..others.len() {
+            let (next, weight) = row.weight_from(from, others[n]);
+            weights[n] = weight;
             from = next;
         }
     }

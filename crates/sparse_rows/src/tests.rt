@@ -3,7 +3,7 @@ ghost use Rattle.std.specs.Prelude.{◌≡◌, ◌≢◌, ◌<◌};
 ghost use Rattle.dist_rows.specs.Cells.{IsLight};
 
 use crate::SparseRows;
-use dist_rows::{Cell, MatrixRows, Offer, Rows, Via};
+use dist_rows::{Cell, MatrixRows, Offer, Rows, Via, weight_in};
 use std::alloc::Global;
 use std::process::Abort;
 use std::test::Fail;
@@ -61,7 +61,7 @@ fn offer<R: Rows>(rows: &mut R, i: u32, a: u32, b: u32, c: u32, by: i128) -> Res
     Ok(())
 }
 
-// The cells of a row at three places are those that are wanted.
+// The cells of a row at three places are those that are wanted, and so are their weights.
 fn reads<R: Rows>(
     rt: &impl Abort,
     rows: &R,
@@ -77,6 +77,9 @@ fn reads<R: Rows>(
     let mut cells = [None; 3];
     rows.read_row(i, &[a, b, c], &mut cells);
     assert_eq!(rt; cells, wanted, "row of {i}");
+    let mut weights = [0; 3];
+    rows.read_weights(i, &[a, b, c], &mut weights);
+    assert_eq!(rt; weights, wanted.map(weight_in), "row of {i}");
 }
 
 // The neighbours of a place from another one on are the first of these, and as many.

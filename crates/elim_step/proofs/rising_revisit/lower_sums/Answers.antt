@@ -1,7 +1,7 @@
 use Rattle.std.proofs.Common.{◌≡◌, ◌∙◌, ◌<◌, ℕ, get_or, Option, None, arith, rules, length, length-set}
 use Rattle.dist_rows.specs.declared.cell.Cell.{Cell}
 use Rattle.elim_step.specs.Eliminates.{lesser_of, sum_through}
-use Rattle.elim_step.proofs.Lists.{set-done, set-left, set-all}
+use Rattle.dist_rows.proofs.Lists.{set-done, set-left, set-all}
 use Rattle.dist_rows.specs.Cells.{IsLight}
 use Rattle.std.specs.Prelude.{IfSome}
 use Rattle.elim_step.proofs.rising_revisit.lower_sums.Goals as goal

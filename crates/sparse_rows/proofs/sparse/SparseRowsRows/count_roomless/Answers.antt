@@ -20,7 +20,7 @@ loop-n-preserved c =
     record {
       few = omega (arith, most, one, c.loop-n.invariant.few);
       count = ap (λ (x : ℕ). c.loop-n.count + x) one ∙ more;
-      within = c.room_from-next.ensures.within;
-      before = λ m q later there less. upto_later c.args.list.now c.loop-n.n m _ 0 c.requires.rising c.loop-n-test.true (c.room_from-next.ensures.upto q less)
+      within = c.room_from-next.ensures.next.within;
+      before = λ m q later there less. upto_later c.args.list.now c.loop-n.n m _ 0 c.requires.rising c.loop-n-test.true (c.room_from-next.ensures.next.below q less)
           later there;
     }
