@@ -19,3 +19,4 @@ pub mod JoinFacts
 pub mod FinalWeights
 pub mod OriginFacts
 pub mod Unfolding
+pub mod SumFacts

@@ -1,6 +1,6 @@
 -- Origins of cells: that they stay where cells become leaves, where more counts as a leaf, and where one more point is eliminated:
 -- origins_none, origins_wider, origins_changed, origins_lowered, origins_kept.
-use Rattle.std.proofs.Common.{◌≡◌, ℕ, suc, ◌<◌, ◌≤◌, List, [], ◌∷◌, Bool, true, false, ◌||◌, ◌&&◌, not, Option, Some, None, length, ap, sym, ◌∙◌}
+use Rattle.std.proofs.Common.{◌≡◌, ℕ, suc, ◌<◌, ◌≤◌, List, [], ◌∷◌, Bool, true, false, ◌||◌, ◌&&◌, not, Option, Some, None, length, ap, ◌∙◌}
 use Rattle.std.proofs.Common.{refl, subst, arith, ◌⊎◌, inl, inr}
 use Rattle.std.specs.Prelude.{◌==◌, ◌+ℤ◌, int_lt, if◌then◌else◌, IfSome}
 use Rattle.std.proofs.lemmas.Bool.{and_parts}

@@ -1,14 +1,13 @@
 -- Cells unfolded into leaves: what is true at the beginning, that the next segment has a cell, that a step keeps what is true, and that it
 -- makes the segments ahead smaller: starts, there_ahead, step, falls.
 use Rattle.std.proofs.Common.{◌≡◌, ℕ, ◌+◌, ◌*◌, ◌^◌, ◌<◌, ◌≤◌, zero, suc, List, [], ◌∷◌, ◌++◌, true, Option, Some, None, length, ap}
-use Rattle.std.proofs.Common.{sym, ◌∙◌, refl, subst, arith, ◌⊎◌, inl, inr}
+use Rattle.std.proofs.Common.{sym, ◌∙◌, refl, subst, arith, inl, inr}
 use Rattle.std.specs.Prelude.{ℤ, pos, ◌+ℤ◌, is_some, IfSome}
 use Rattle.std.specs.List.{AllByRecursion}
 use Rattle.std.proofs.lemmas.Int.{ints}
 use Rattle.std.proofs.lemmas.Nat.{pow_pos}
 use Rattle.std.proofs.Math.Pow.{pow_mono}
 use Rattle.std.proofs.Math.Nat.{pow-suc}
-use Rattle.stn_walk.specs.Eliminations.{is_in}
 use Rattle.dist_rows.specs.declared.cell.Cell.{Cell}
 use Rattle.dist_rows.specs.declared.cell.Via.{Via}
 use Rattle.dist_rows.specs.declared.cell.Via.TheVariants.{Given, Published, Through}

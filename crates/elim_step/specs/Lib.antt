@@ -2,6 +2,7 @@ pub mod Eliminates
 pub mod Blocks
 pub mod Regions
 pub mod Offered
+pub mod Sums
 pub mod Among
 pub mod Revisits
 pub mod RevisitRows

@@ -17,6 +17,7 @@ mod room;
 pub mod step;
 pub mod steps;
 pub mod summary;
+mod sums;
 
 pub use among::{eliminate_among, eliminate_with_room};
 pub use joins::Joins;

@@ -15,7 +15,7 @@ lower_to-requires g c =
     record {
       apart = λ same. is_in-apart xs (get_or xs n 0) c.args.k here c.requires.away (sym same);
       room = c.loop-n.invariant.room c.args.k (get_or xs n 0) ∙ c.requires.room (get_or xs n 0) here;
-      light = c.requires.light n (search rules);
+      light = c.cell.ensures.light;
     }
 
 pub loop-n-preserved : goal.loop-n-preserved
@@ -29,7 +29,8 @@ loop-n-preserved g c =
     let now = c.lower_to.ensures in
     record {
       cells = λ f cells p q.
-          now.cells p q ∙ (λ t. sum_lowered k x (cells n (search rules) t) (λ a b. was.cells f cells a b t) p q)
+          now.cells p q ∙ (λ t. sum_lowered k x (c.cell.ensures.value t) (λ a b. was.cells f cells a b t) p q)
+          ∙ (λ t. sum_lowered k x (cells n (search rules) t) (outs_after k f (take n xs) f0) p q)
           ∙ outs-more k x f (take n xs) f0 (ahead_fresh xs n c.requires.rising (search rules)) p q
           ∙ ap (λ ys. outs_after k f ys f0 p q) (sym (take_more xs n 0 (search rules)));
       room = λ p q. now.room p q ∙ was.room p q;

@@ -28,8 +28,9 @@ revisit_row-requires g c =
       back_len = c.read_back.ensures.len;
       row_len = was.row_len;
       sums_len = was.sums_len;
-      back = c.read_back.ensures.cells;
-      sums = was.light;
+      back = c.read_back.ensures.weights;
+      plain = c.read_back.ensures.plain;
+      sums = was.sums;
       room_back = was.room j k ∙ c.requires.room_back j here;
       forward = c.requires.forward;
       finals =
@@ -57,13 +58,13 @@ loop-j-preserved g c =
           ∙ (λ t. sum_lowered j k (least_over (in_sum fw (λ a b. was.cells a b t) k j) None block) (λ a b. was.cells a b t) p q)
           ∙ backs-more fw k j block (take n ns) f (ahead_fresh ns n c.requires.later_rising (search rules)) c.requires.away p q
           ∙ ap (λ xs. backs_after fw k block xs f p q) (sym (take_more ns n 0 (search rules)));
-      sums = λ m l.
+      value = λ m l.
           (let q = get_or block m 0 in
-          now.sums m l
-          ∙ (λ t. lesser_of (was.sums m l t) (out_sum fw (λ a b. was.cells a b t) k q j))
+          now.value m l
+          ∙ (λ t. lesser_of (was.value m l t) (out_sum fw (λ a b. was.cells a b t) k q j))
           ∙ out-more fw k j q block (take n ns) f (is_in-apart block q k (is_in-at block m l) c.requires.away)
           ∙ ap (λ xs. least_over (out_sum fw f k q) None xs) (sym (take_more ns n 0 (search rules))));
-      light = now.light;
+      sums = now.sums;
       sums_len = now.sums_len;
       row_len = now.row_len;
       room = λ p q. now.room p q ∙ was.room p q;
@@ -86,7 +87,7 @@ returns-clause-cells g c =
     let all : take c.loop-j.j-index ns ≡ ns = take_all c.loop-j.j-index ns (search rules) in
     let sum : ℕ → Option Cell = λ y. least_over (out_sum fw f k y) None ns in
     λ p q.
-    c.lower_out.ensures.cells sum (λ m l. was.sums m l ∙ (λ t. least_over (out_sum fw f k (get_or block m 0)) None (all t))) p q
+    c.lower_out.ensures.cells sum (λ m l. was.value m l ∙ (λ t. least_over (out_sum fw f k (get_or block m 0)) None (all t))) p q
     ∙ (λ t. outs_after k sum block (λ a b. was.cells a b t) p q)
     ∙ (λ t. outs_after k sum block (backs_after fw k block (all t) f) p q)
     ∙ block-whole fw k block ns f c.requires.away p q
