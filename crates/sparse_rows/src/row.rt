@@ -133,12 +133,13 @@ impl Row {
         requires below { (q : ℕ) → q < from → place_at self.now q < j }
         ensures { IsSought self.now j result }
     {
-        if self.is_reached(from, j) {
-            return from;
-        }
-        // Where each place has an entry, it stands at its number.
+        // Where each place has an entry, it stands at its number. This is looked at first: it is true of each place of such a
+        // row, where no guess at the next place of a list would be.
         if self.is_at(j as usize, j) {
             return j as usize;
+        }
+        if self.is_reached(from, j) {
+            return from;
         }
         self.advance_far(from, j)
     }
@@ -190,14 +191,14 @@ impl Row {
         Err(at)
     }
 
-    // The same, found by halving the row.
+    // The same, sought from the front of the row on.
     fn find(&self, j: u32) -> Result<usize, usize>
         requires { IsRising self.now }
         ensures here { IfOk result (λ at. IsHere self.now j at) }
         ensures gap { IfErr result (λ at. IsGap self.now j at) }
         ensures none { IfErr result (λ at. entry_in self.now j ≡ None) }
     {
-        self.found(self.seek(u64::from(j)), j)
+        self.find_from(0, j)
     }
 
     // The same, where the first `from` entries have places below j.
@@ -496,7 +497,7 @@ impl Row {
         requires { IsRising self.now }
         ensures { result ≡ opens self.now j }
     {
-        self.has_room(self.seek(u64::from(j)), j)
+        self.has_room(self.advance(0, j), j)
     }
 
     /// The same entries.
