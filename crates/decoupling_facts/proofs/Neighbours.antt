@@ -82,7 +82,7 @@ place_within (x ∷ xs) p h =
       deeper true lt = omega arith
       deeper false lt = omega arith
 
-place_apart : (order : List ℕ) (p q : ℕ) → is_in order p ≡ true → p ≢ q → position_or_len (nat_eq q) order ≢ position_or_len (nat_eq p) order
+pub place_apart : (order : List ℕ) (p q : ℕ) → is_in order p ≡ true → p ≢ q → position_or_len (nat_eq q) order ≢ position_or_len (nat_eq p) order
 place_apart order p q h apart same =
     let within = place_within order p h in
     let at = get_or order (position_or_len (nat_eq p) order) 0 in

@@ -3,3 +3,4 @@ pub mod states
 pub mod cells
 pub mod networks
 pub mod graphs
+pub mod times

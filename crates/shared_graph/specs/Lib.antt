@@ -17,3 +17,5 @@ pub mod Journals
 pub mod Histories
 pub mod Legs
 pub mod Readiness
+pub mod Timed
+pub mod TimedLaws

@@ -21,6 +21,7 @@ pub mod shared;
 pub mod steps;
 mod take;
 pub mod throughs;
+pub mod times_laws;
 pub mod told;
 pub mod unfold;
 

@@ -126,7 +126,7 @@ module _ (face : InterfaceView) (known : IsInterface face) (s : State) (together
         let differ : (0 == k) ≡ false = ne_eqb 0 k (λ e. apart_z (sym e)) in
         (λ t. not (differ t) && joined t)
 
-    later_z : is_later face s k 0 ≡ true
+    pub later_z : is_later face s k 0 ≡ true
     later_z = (let one = joins_z in let two = none (is_in (before_both s.order k k) 0) refl in (λ t. one t && not (two t))) where
       none : (b : Bool) → is_in (before_both s.order k k) 0 ≡ b → b ≡ false
       none true t = (let o = together.owned 0 (before-in s.order k k 0 t) in absurd (not_z face known 0 o.0 o.1 refl))

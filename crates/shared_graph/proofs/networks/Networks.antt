@@ -143,7 +143,7 @@ module _ (net : Net) (valid : IsNetwork net) where
         → HasOnlyMeeting net (map plain_entries summaries) (meeting_of (interface_of net) s)
     state_only s listed = arcs_only s.published listed
 
-    externals_there : (ps : List Published) (a : Constraint) → Contains (external_arcs net) a → Contains (arcs_after (interface_of net) ps) a
+    pub externals_there : (ps : List Published) (a : Constraint) → Contains (external_arcs net) a → Contains (arcs_after (interface_of net) ps) a
     externals_there [] a h = h
     externals_there (p ∷ ps) a h = Contains-append_left (arcs_after (interface_of net) ps) (agent_arcs (interface_of net) p) a (externals_there ps a h)
 

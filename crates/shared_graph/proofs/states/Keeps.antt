@@ -32,7 +32,7 @@ use Rattle.shared_graph.proofs.states.Passing.{passing_none, listed_in, no_stop,
 use Rattle.shared_graph.proofs.states.ArcLists.{single_none_below, least_all}
 use Rattle.shared_graph.proofs.states.Meetings.{IsPlace, agent_arc, meeting_ends, listed_of, not_z, pair_meets}
 
-false_of : (b : Bool) → (b ≡ true → ⊥) → b ≡ false
+pub false_of : (b : Bool) → (b ≡ true → ⊥) → b ≡ false
 false_of true h = absurd (h refl)
 false_of false h = refl
 
