@@ -1,7 +1,7 @@
 -- What holds of times and widened ends, and what they say of a network: SettingsHold, StartHoldsTimes, EntriesKeepTimes, ReplaysHoldTimes, IsOpen,
 -- WindowsAreOpen, WidestAreThere, IsInside, TimesLieInside, GoesOn, TimesGoOn, BoxesDecouple.
-use Rattle.std.specs.Prelude.{◌≡◌, ℕ, ◌<◌, ℤ, neg_ℤ, ◌≤ℤ◌, Bool, true, List, [], length, Option, Some, None}
-use Rattle.stn_model.specs.Net.{Net, arcs_of, point_count}
+use Rattle.std.specs.Prelude.{◌≡◌, ℕ, ◌<◌, ℤ, neg_ℤ, ◌≤ℤ◌, Bool, true, List, [], length, Some, None}
+use Rattle.stn_model.specs.Net.{arcs_of, point_count}
 use Rattle.stn_model.specs.Schedules.{Satisfies}
 use Rattle.decoupling_facts.specs.Assignments.{IsSetting}
 use Rattle.decoupling_facts.specs.Boxes.{IsWidestHigh, IsWidestLow}

@@ -1,10 +1,9 @@
 -- A time in the window of the next point keeps what stands: assign_passes, open_window, assigned_on.
-use Rattle.std.proofs.Common.{◌≡◌, ◌≢◌, ℕ, List, [], ◌∷◌, Bool, true, false, not, ◌&&◌, ◌||◌, Option, Some, None, sym, ap, ◌∙◌, refl, arith, subst, inl, inr, ◌⊎◌, filter}
-use Rattle.std.specs.Prelude.{◌↔◌, ℤ, pos, neg_ℤ, ◌+ℤ◌, ◌-ℤ◌, ◌≤ℤ◌, ◌==◌, is_some, if◌then◌else◌, reverse}
+use Rattle.std.proofs.Common.{◌≡◌, ◌≢◌, ℕ, List, ◌∷◌, Bool, true, false, not, ◌&&◌, ◌||◌, Option, Some, None, sym, ap, ◌∙◌, refl, arith, subst, inl, inr, ◌⊎◌}
+use Rattle.std.specs.Prelude.{◌↔◌, ℤ, pos, neg_ℤ, ◌+ℤ◌, ◌≤ℤ◌, ◌==◌, is_some, if◌then◌else◌, reverse}
 use Rattle.std.specs.Option.{unwrap_or, option_map}
 use Rattle.std.specs.Ordering.{int_eq}
-use Rattle.std.proofs.Math.Bool.{or-true}
-use Rattle.std.proofs.lemmas.Bool.{and_parts, or_cases, ne_eqb, cases_eq, false≢true}
+use Rattle.std.proofs.lemmas.Bool.{and_parts, ne_eqb, cases_eq}
 use Rattle.std.proofs.lemmas.Bool.Decides.{nat_tests}
 use Rattle.std.proofs.lemmas.Int.{ints}
 use Rattle.stn_model.specs.declared.ids.Lean.{Lean}
@@ -12,7 +11,7 @@ use Rattle.stn_model.specs.declared.ids.Lean.TheVariants.{Early, Late, Middle}
 use Rattle.stn_model.specs.Joined.{IsLaterNeighbour}
 use Rattle.stn_walk.specs.Eliminations.{is_in, sum_of}
 use Rattle.stn_walk.proofs.Finals.{IsLeastOf, IsUpper}
-use Rattle.decoupling_facts.specs.Assignments.{Stands, IsAssignable, IsAssigned}
+use Rattle.decoupling_facts.specs.Assignments.{IsAssignable, IsAssigned}
 use Rattle.decoupling_facts.specs.Windows.{LeavesWindow, lean_time}
 use Rattle.decoupling_facts.proofs.Assignments.{assigned_stands, window_open}
 use Rattle.decoupling_facts.proofs.Windows.{lean_within}
@@ -20,17 +19,16 @@ use Rattle.shared_graph.specs.declared.events.By.{By}
 use Rattle.shared_graph.specs.declared.events.End.{End}
 use Rattle.shared_graph.specs.declared.events.End.TheVariants.{Low, High}
 use Rattle.shared_graph.specs.declared.events.Event.TheVariants.{Assign}
-use Rattle.shared_graph.specs.declared.events.Illegal.{Illegal}
 use Rattle.shared_graph.specs.declared.events.Illegal.TheVariants.{NotShared, AlreadyDone, WrongValue}
 use Rattle.shared_graph.specs.Interfaces.{InterfaceView, IsInterface, Summary, is_listed, points_of}
-use Rattle.shared_graph.specs.Refusals.{cause_of, or_else, order_open, neighbour_first, wrong_value}
+use Rattle.shared_graph.specs.Refusals.{cause_of, order_open, neighbour_first, wrong_value}
 use Rattle.shared_graph.specs.Replays.{after}
 use Rattle.shared_graph.specs.States.{State, Assigned, point_id, meeting_of}
 use Rattle.shared_graph.specs.Timed.{bound_in, setting_in, end_of, times_in, HoldsTimes, IsNextTimed}
 use Rattle.shared_graph.specs.TimedLaws.{IsOpen}
 use Rattle.shared_graph.specs.Together.{HoldsTogether}
 use Rattle.shared_graph.specs.Weights.{is_joined, is_later, final, later_neighbours, least_over, first_passing}
-use Rattle.shared_graph.specs.Windows.{assigned_in, is_assigned, value_in, low_in, high_in, is_widened, end_widened, negated, window_low, window_high}
+use Rattle.shared_graph.specs.Windows.{assigned_in, is_assigned, value_in, is_widened, end_widened, negated, window_low, window_high}
 use Rattle.shared_graph.specs.Windows.{chosen, lean_in, kept_value}
 use Rattle.shared_graph.proofs.cells.Revisits.{filter_in, in_filter, least_over_is}
 use Rattle.shared_graph.proofs.graphs.FirstTimes.{later_z}
@@ -270,7 +268,7 @@ assigned_on face known summaries s together holds by k value legal =
       revisited = λ p set. next.revisited;
       stands =
           assigned_stands (setting_in face s) (setting_holds face known s together next.revisited) (times_in s) holds.stands k
-              (ready face known s together k next) (neg_ℤ (low_of face known s together k next).least) (high_of face known s together k next).least
-              (leaves face known s together k next) value (omega (arith, ints)) (omega (arith, ints))
-              (times_in (after face summaries s (Assign (point_id k) value))) (assigned_is s k value apart next.unset);
+          (ready face known s together k next) (neg_ℤ (low_of face known s together k next).least) (high_of face known s together k next).least
+          (leaves face known s together k next) value (omega (arith, ints)) (omega (arith, ints))
+          (times_in (after face summaries s (Assign (point_id k) value))) (assigned_is s k value apart next.unset);
     }

@@ -1,16 +1,17 @@
 -- Boxes of a replayed state in which all shared points have times are a decoupling of the network: boxes_decouple.
-use Rattle.std.proofs.Common.{◌≡◌, ◌≢◌, ℕ, ◌<◌, List, [], Bool, true, false, not, ◌&&◌, ◌||◌, nat_eq, Option, Some, None, sym, ap, ◌∙◌, refl, arith, subst, inl, inr, map, length, get_or}
-use Rattle.std.specs.Prelude.{ℤ, ◌==◌, is_some, reverse, Contains}
-use Rattle.std.proofs.lemmas.Bool.{and_parts, or_cases, cases_eq}
+use Rattle.std.proofs.Common.{◌≡◌, ℕ, ◌<◌, List, [], Bool, true, false, ◌&&◌, nat_eq, Option, Some, None, sym, ap, ◌∙◌, refl, arith, subst, inl, inr}
+use Rattle.std.proofs.Common.{map, length, get_or}
+use Rattle.std.specs.Prelude.{ℤ, is_some, reverse}
+use Rattle.std.proofs.lemmas.Bool.{and_parts, or_cases}
 use Rattle.std.proofs.lemmas.Bool.Decides.{nat_tests}
 use Rattle.stn_model.specs.Net.{Net, arcs_of, point_count}
 use Rattle.stn_model.specs.Valid.{IsNetwork}
 use Rattle.stn_model.specs.Kinds.{is_shared, is_owned_by}
 use Rattle.stn_model.specs.Conflicts.{external_arcs}
 use Rattle.stn_model.specs.Schedules.{Satisfies}
-use Rattle.stn_model.specs.Summaries.{Entry as PlainEntry, is_seen, IsSeenPair, IsEntryWeight}
-use Rattle.meeting_arcs.specs.Meeting.{IsMeeting, entry_arc}
-use Rattle.decoupling_facts.specs.Assignments.{IsSetting, Stands, AreAllSet}
+use Rattle.stn_model.specs.Summaries.{Entry as PlainEntry, IsSeenPair, IsEntryWeight}
+use Rattle.meeting_arcs.specs.Meeting.{IsMeeting}
+use Rattle.decoupling_facts.specs.Assignments.{IsSetting, Stands}
 use Rattle.decoupling_facts.specs.Decouplings.{IsDecoupling, IsTightIn, setting_of}
 use Rattle.decoupling_facts.specs.LocalNetworks.{decoupled_arcs, joint_times}
 use Rattle.decoupling_facts.proofs.Decouplings.{standing_decouples, decoupling_satisfies}
@@ -21,12 +22,12 @@ use Rattle.shared_graph.specs.declared.events.Entry.{Entry}
 use Rattle.shared_graph.specs.declared.events.Phase.TheVariants.{Reverse, Assign as AssignPhase}
 use Rattle.shared_graph.specs.Interfaces.{Summary, IsInterface, is_listed, interface_of}
 use Rattle.shared_graph.specs.Journals.{IsDone}
-use Rattle.shared_graph.specs.Replays.{plain_entries, AreRight, replay, summary_of}
+use Rattle.shared_graph.specs.Replays.{plain_entries, AreRight, replay}
 use Rattle.shared_graph.specs.States.{State, Assigned, start, meeting_of}
 use Rattle.shared_graph.specs.Timed.{bound_in, setting_in, ends_in, end_of, times_in, HoldsTimes}
 use Rattle.shared_graph.specs.Together.{HoldsTogether, IsAllPublished}
 use Rattle.shared_graph.specs.Weights.{is_joined}
-use Rattle.shared_graph.specs.Windows.{assigned_in, is_assigned, is_widened, end_widened}
+use Rattle.shared_graph.specs.Windows.{assigned_in, is_widened, end_widened}
 use Rattle.shared_graph.proofs.interfaces.SharedPoints.{interface_is, shared_listed_in, listed_is_shared}
 use Rattle.shared_graph.proofs.networks.Networks.{summaries_fit, state_only, state_meeting, externals_there}
 use Rattle.shared_graph.proofs.networks.Verdicts.{sound}

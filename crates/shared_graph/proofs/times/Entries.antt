@@ -1,6 +1,6 @@
 -- Every legal entry keeps what holds of times: start_times, entry_times, replay_times.
-use Rattle.std.proofs.Common.{◌≡◌, ◌≢◌, ℕ, List, [], ◌∷◌, Bool, true, false, not, ◌&&◌, ◌||◌, Option, Some, None, sym, ap, ◌∙◌, refl, arith, subst, inl, inr, length}
-use Rattle.std.specs.Prelude.{ℤ, pos, ◌==◌, is_some, if◌then◌else◌}
+use Rattle.std.proofs.Common.{◌≡◌, ℕ, List, [], ◌∷◌, Bool, true, false, not, ◌&&◌, ◌||◌, Some, None, sym, ap, ◌∙◌, refl, arith, subst, inl, length}
+use Rattle.std.specs.Prelude.{◌==◌, is_some, if◌then◌else◌}
 use Rattle.std.specs.Option.{unwrap_or, option_map}
 use Rattle.std.proofs.lemmas.Bool.Decides.{nat_tests}
 use Rattle.decoupling_facts.specs.Assignments.{Stands, has_box}
@@ -14,8 +14,8 @@ use Rattle.shared_graph.specs.declared.events.Phase.TheVariants.{Reverse}
 use Rattle.shared_graph.specs.Histories.{AreFitting}
 use Rattle.shared_graph.specs.Interfaces.{InterfaceView, IsInterface, Summary, is_listed, points_of}
 use Rattle.shared_graph.specs.Journals.{IsDone}
-use Rattle.shared_graph.specs.Refusals.{refusal, cause_of, or_else, not_published, order_open, neighbour_first, first_below}
-use Rattle.shared_graph.specs.Replays.{after, replay, summary_of}
+use Rattle.shared_graph.specs.Refusals.{refusal, cause_of, not_published, order_open, neighbour_first, first_below}
+use Rattle.shared_graph.specs.Replays.{after, replay}
 use Rattle.shared_graph.specs.States.{State, Assigned, start, point_id, is_published, is_revisited}
 use Rattle.shared_graph.specs.Timed.{setting_in, end_of, times_in, HoldsTimes}
 use Rattle.shared_graph.specs.Together.{HoldsTogether}

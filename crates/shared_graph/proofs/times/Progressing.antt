@@ -1,6 +1,6 @@
 -- Times and widened ends stay, and each time lies in its box: entries_go_on, lies_inside.
-use Rattle.std.proofs.Common.{◌≡◌, ◌≢◌, ℕ, List, [], ◌∷◌, Bool, true, false, not, ◌&&◌, ◌||◌, Option, Some, None, sym, ap, ◌∙◌, refl, arith, subst, inl, inr}
-use Rattle.std.specs.Prelude.{ℤ, pos, neg_ℤ, ◌≤ℤ◌, ◌==◌, is_some, if◌then◌else◌}
+use Rattle.std.proofs.Common.{◌≡◌, ◌≢◌, ℕ, List, [], ◌∷◌, Bool, true, false, not, ◌&&◌, ◌||◌, Option, Some, None, sym, ap, ◌∙◌, refl, arith, inl, inr}
+use Rattle.std.specs.Prelude.{ℤ, pos, ◌==◌, is_some, if◌then◌else◌}
 use Rattle.std.specs.Option.{unwrap_or, option_map}
 use Rattle.std.proofs.lemmas.Bool.{cases_eq, ne_eqb}
 use Rattle.std.proofs.lemmas.Bool.Decides.{nat_tests}
@@ -14,13 +14,13 @@ use Rattle.shared_graph.specs.declared.events.Event.{Event}
 use Rattle.shared_graph.specs.declared.events.Event.TheVariants.{Publish, Eliminate, Stop, Revisit, Assign, Widen}
 use Rattle.shared_graph.specs.declared.events.Illegal.TheVariants.{NotShared, AlreadyDone}
 use Rattle.shared_graph.specs.Interfaces.{InterfaceView, IsInterface, Summary, is_listed, points_of}
-use Rattle.shared_graph.specs.Refusals.{refusal, cause_of, or_else, order_open}
+use Rattle.shared_graph.specs.Refusals.{refusal, cause_of, order_open}
 use Rattle.shared_graph.specs.Replays.{after, replay}
 use Rattle.shared_graph.specs.States.{State, Assigned, point_id}
 use Rattle.shared_graph.specs.Timed.{bound_in, times_in, HoldsTimes}
 use Rattle.shared_graph.specs.TimedLaws.{GoesOn, IsInside}
 use Rattle.shared_graph.specs.Weights.{final, first_passing}
-use Rattle.shared_graph.specs.Windows.{assigned_in, is_assigned, value_in, low_in, high_in, is_widened, end_widened, moved, moved_at, widest}
+use Rattle.shared_graph.specs.Windows.{assigned_in, is_assigned, low_in, high_in, is_widened, end_widened, moved, moved_at, widest}
 use Rattle.stn_walk.specs.Eliminations.{is_in}
 use Rattle.shared_graph.proofs.states.Meetings.{listed_not_z}
 use Rattle.shared_graph.proofs.states.Passing.{no_stop, if_none, or_none}
@@ -122,7 +122,7 @@ module _ (face : InterfaceView) (summaries : List Summary) where
           let off : end_widened end a ≡ false = sym (ap (λ o. unwrap_or (option_map (end_widened end) o) false) at) ∙ fresh in (
             moved end (widest end face s k) a,
             ap (assigned_in (moved_at k end (widest end face s k) s.assigned)) e ∙ moved_here k end (widest end face s k) s.assigned
-            ∙ ap (λ o. option_map (moved end (widest end face s k)) o) at,
+                ∙ ap (λ o. option_map (moved end (widest end face s k)) o) at,
             (keep end (widest end face s k) a off).0,
             (keep end (widest end face s k) a off).1,
             (keep end (widest end face s k) a off).2,

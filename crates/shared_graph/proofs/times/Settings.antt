@@ -1,14 +1,12 @@
 -- A state in which all shared points are revisited is a setting: setting_holds, final_there.
-use Rattle.std.proofs.Common.{◌≡◌, ◌≢◌, ℕ, List, [], ◌∷◌, Bool, true, false, not, ◌&&◌, ◌||◌, Option, Some, None, sym, ap, ◌∙◌, refl, arith, subst, inl, inr}
-use Rattle.std.specs.Prelude.{ℤ, pos, ◌==◌, is_some, reverse, Contains}
+use Rattle.std.proofs.Common.{◌≡◌, ℕ, List, [], ◌∷◌, true, ◌||◌, Some, sym, ap, ◌∙◌, refl, arith, subst, inl, inr}
+use Rattle.std.specs.Prelude.{pos, ◌==◌, is_some, reverse, Contains}
 use Rattle.std.specs.Option.{unwrap_or}
 use Rattle.std.proofs.Math.Bool.{or-true}
-use Rattle.std.proofs.lemmas.Bool.{and_parts, ne_eqb}
 use Rattle.std.proofs.lemmas.Bool.Decides.{nat_tests}
 use Rattle.stn_model.specs.declared.ids.Constraint.{Constraint}
-use Rattle.stn_model.specs.Joined.{IsJoined}
 use Rattle.stn_model.specs.ArcWalks.{IsInnerLeast}
-use Rattle.stn_walk.specs.Eliminations.{is_in, before_both}
+use Rattle.stn_walk.specs.Eliminations.{is_in}
 use Rattle.stn_walk.proofs.Joins.{is_in-reverse}
 use Rattle.stn_walk.proofs.Exits.{every}
 use Rattle.std.proofs.lemmas.List.Elements.{Contains-append_left}
@@ -20,7 +18,7 @@ use Rattle.shared_graph.specs.Journals.{IsDone}
 use Rattle.shared_graph.specs.States.{State, Published, is_revisited, meeting_of, agent_arcs, arcs_after}
 use Rattle.shared_graph.specs.Timed.{bound_in, setting_in}
 use Rattle.shared_graph.specs.Together.{HoldsTogether}
-use Rattle.shared_graph.specs.Weights.{is_joined, is_later, final}
+use Rattle.shared_graph.specs.Weights.{is_joined, final}
 use Rattle.shared_graph.proofs.cells.Orders.{joined_is}
 use Rattle.shared_graph.proofs.graphs.FirstTimes.{later_z}
 use Rattle.shared_graph.proofs.states.Keeps.{sound_of, joined_place}

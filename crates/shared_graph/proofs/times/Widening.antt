@@ -1,14 +1,13 @@
 -- The widest ends are there, and with an end widened what stands stands: widest_low_there, widest_high_there, moved_here, moved_other, widen_passes, widened_on.
-use Rattle.std.proofs.Common.{◌≡◌, ◌≢◌, ℕ, zero, suc, ◌<◌, List, [], ◌∷◌, Bool, true, false, not, ◌&&◌, ◌||◌, Option, Some, None, sym, ap, ◌∙◌, refl, arith, subst, inl, inr, ◌⊎◌}
-use Rattle.std.specs.Prelude.{◌↔◌, ℤ, pos, neg_ℤ, ◌+ℤ◌, ◌-ℤ◌, ◌≤ℤ◌, ◌<ℤ◌, ◌==◌, is_some, int_lt, if◌then◌else◌, Contains}
+use Rattle.std.proofs.Common.{◌≡◌, ◌≢◌, ℕ, List, [], ◌∷◌, Bool, true, false, not, ◌||◌, Option, Some, None, sym, ap, ◌∙◌, refl, arith, subst, inl, inr, ◌⊎◌}
+use Rattle.std.specs.Prelude.{◌↔◌, ℤ, pos, neg_ℤ, ◌+ℤ◌, ◌≤ℤ◌, ◌<ℤ◌, ◌==◌, is_some, int_lt, if◌then◌else◌, Contains}
 use Rattle.std.specs.Option.{unwrap_or, option_map}
-use Rattle.std.proofs.Math.Bool.{or-true}
-use Rattle.std.proofs.lemmas.Bool.{or_cases, ne_eqb, cases_eq}
+use Rattle.std.proofs.lemmas.Bool.{ne_eqb, cases_eq}
 use Rattle.std.proofs.lemmas.Bool.Decides.{nat_tests}
 use Rattle.std.proofs.lemmas.Int.{ints}
 use Rattle.stn_model.specs.declared.ids.Constraint.{Constraint}
-use Rattle.stn_walk.specs.Eliminations.{is_in, sum_of, lesser}
-use Rattle.decoupling_facts.specs.Assignments.{IsWidened, AreAllSet}
+use Rattle.stn_walk.specs.Eliminations.{sum_of, lesser}
+use Rattle.decoupling_facts.specs.Assignments.{IsWidened}
 use Rattle.decoupling_facts.specs.Boxes.{Widens, IsWidestHigh, IsWidestLow}
 use Rattle.decoupling_facts.proofs.Assignments.{widened_stands}
 use Rattle.decoupling_facts.proofs.Lists.{contains_cases, contains_first, contains_rest}
@@ -26,7 +25,7 @@ use Rattle.shared_graph.specs.States.{State, Assigned, point_id}
 use Rattle.shared_graph.specs.Timed.{bound_in, setting_in, end_of, ends_in, times_in, HoldsTimes}
 use Rattle.shared_graph.specs.Together.{HoldsTogether}
 use Rattle.shared_graph.specs.Weights.{final, first_passing}
-use Rattle.shared_graph.specs.Windows.{assigned_in, is_assigned, value_in, low_in, high_in, is_widened, end_widened, negated, least_to, least_out}
+use Rattle.shared_graph.specs.Windows.{assigned_in, is_assigned, low_in, high_in, is_widened, end_widened, negated, least_to, least_out}
 use Rattle.shared_graph.specs.Windows.{widest_high, widest_low, moved, moved_at, widest, widened}
 use Rattle.shared_graph.proofs.graphs.FirstTimes.{joins_z, joined_z}
 use Rattle.shared_graph.proofs.states.Meetings.{listed_not_z}
@@ -387,5 +386,5 @@ widened_on face known summaries s together holds by k end legal =
       revisited = λ p h. holds.revisited p (sym (some_read s k (widest end face s k) a.0 a.1 end p) ∙ h);
       stands =
           widened_stands (setting_in face s) (setting_holds face known s together done) (times_in s) holds.stands set (k, is_high end) listed
-              (times_in (after face summaries s (Widen (point_id k) end))) (widened_is face known s together done set k listed end);
+          (times_in (after face summaries s (Widen (point_id k) end))) (widened_is face known s together done set k listed end);
     }

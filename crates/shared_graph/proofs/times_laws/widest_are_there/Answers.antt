@@ -1,5 +1,3 @@
-use Rattle.std.proofs.Common.{◌≡◌, true, ap}
-use Rattle.std.specs.Prelude.{is_some}
 use Rattle.shared_graph.proofs.times.Widening.{widest_low_there, widest_high_there, done_with}
 use Rattle.shared_graph.proofs.times_laws.widest_are_there.Goals as goal
 
