@@ -236,6 +236,11 @@ module _ (parts : PartsView) (known : IsParts parts)
   bound_told i j None there found = absurd (cc)
   bound_told i j (Some b) there found = bound_joined found.0 found.1.0 i j b found.1.1 found.1.2
 
+  pub private_told : (i j : ℕ) (o : Option ℤ) → IfSome o (λ b. (a : ℕ) × ((v : BoundsView) × (slice_get parts.bounds a ≡ Some v) × (bound_between v i j ≡ Some b)))
+      → IfSome o (λ b. IsLeastBound (point_count net) (arcs_of net) i j b)
+  private_told i j None found = tt
+  private_told i j (Some b) found = (bound_joined found.0 found.1.0 i j b found.1.1 found.1.2).1
+
   -- the back sweeps of the owners of two points have no bound between them
   abbrev pub NoOwners : ℕ → ℕ → Type 0
   NoOwners i j =

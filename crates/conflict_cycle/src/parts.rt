@@ -88,7 +88,7 @@ impl Parts {
 
     /// The least bound on `time(j) - time(i)`, in the network's unit of time. None exactly where the points are equal or not joined: two different
     /// points are joined where arcs, taken without direction, have a path between them whose inner points all come before both in the order. Takes no
-    /// memory, and a look at each agent's part.
+    /// memory: one look at the graph, and where it has no bound one at each agent's part.
     pub fn bound(&self, i: PointId, j: PointId) -> Option<i128>
         ensures joined { OfBelonging self.now (λ net. (is_some result ≡ true)
             ↔ IsJoined (arcs_of net) (order_of self.now.reduced self.now.shared.state) i.0 j.0) }
@@ -97,11 +97,11 @@ impl Parts {
         let shared = self.shared();
         // With the interface comes that the graph holds together.
         let _face = shared.interface();
-        let private = self.private_bound(i, j);
-        if private.is_some() {
-            return private;
+        let seen = shared.final_bound(i, j);
+        if seen.is_some() {
+            return seen;
         }
-        shared.final_bound(i, j)
+        self.private_bound(i, j)
     }
 
     // The bound of the first back sweep that has one.
