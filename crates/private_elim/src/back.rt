@@ -143,6 +143,9 @@ impl<R: Rows> Bounds<R> {
         ensures least { IfSome result (λ k. (m : ℕ) → from ≤ m → m < k → cell_in self.now (Some row) (Some m) ≡ None) }
         ensures none { IfNone result ((m : ℕ) → from ≤ m → cell_in self.now (Some row) (Some m) ≡ None) }
     {
+        if !self.some_private(row, from) {
+            return None;
+        }
         let mut first = from;
         while let Some(place) = self.finals.next_neighbour(row, first.checked_sub(1)) {
             if self.cell_at(row, place).is_some() {
@@ -151,6 +154,14 @@ impl<R: Rows> Bounds<R> {
             first = place + 1;
         }
         None
+    }
+
+    // Whether a place, or one of those from another one on, is private: between others there is no bound.
+    fn some_private(&self, row: u32, from: u32) -> bool
+        requires { row < length self.now.points }
+        ensures { result ≡ false → (m : ℕ) → from ≤ m → cell_in self.now (Some row) (Some m) ≡ None }
+    {
+        self.private[row as usize] || any_from(self.private.as_slice(), from)
     }
 
     /// Equal bounds, or OutOfMemory.
@@ -185,4 +196,16 @@ fn is_private_pair(private: &[bool], p: u32, q: u32) -> bool
     ensures { result ≡ (slice_index_or private.now p false || slice_index_or private.now q false) }
 {
     private[p as usize] || private[q as usize]
+}
+
+// Whether one of the flags from a place on is set.
+fn any_from(flags: &[bool], from: u32) -> bool
+    ensures { result ≡ false → (m : ℕ) → from ≤ m → slice_index_or flags.now m false ≡ false }
+{
+    for n in from as usize..flags.len() {
+        if flags[n] {
+            return true;
+        }
+    }
+    false
 }

@@ -67,6 +67,19 @@ row_none points private at p m lp away =
     ∙ get_or_past row m None (omega arith))
     (cases_lt m (length points))
 
+-- between two places that are not private there is no cell
+pub shared_none : (points : List ℕ) (private : List Bool) (at : ℕ → ℕ → Option Cell) (p m : ℕ) → p < length points → slice_index_or private p false ≡ false
+    → slice_index_or private m false ≡ false → cell_in (bounds_view points private at) (Some p) (Some m) ≡ None
+shared_none points private at p m lp first second =
+    let row = upto (private_cells private at p) (length points) in
+    ⊎_elim
+    (λ (within : m < length points). cell_is points private at p m lp within ∙ rw (first, second) refl)
+    (λ (past : length points ≤ m).
+    let many = upto-length (private_cells private at p) (length points) in
+    ap (λ r. slice_index_or r m None) (upto-at (λ p. upto (private_cells private at p) (length points)) (length points) p [] lp)
+    ∙ get_or_past row m None (omega arith))
+    (cases_lt m (length points))
+
 module _ (b : BoundsView) (i row from : ℕ) (o : Option ℕ) (is : place_in b.points i ≡ Some row)
     (below : (k : ℕ) → k < from → IsAbove (point_at b.points k) o → ⊥) where
   -- a place of a point above is not before the first one
